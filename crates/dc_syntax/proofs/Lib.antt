@@ -1,0 +1,6 @@
+pub mod Keys
+pub mod Parts
+pub mod Runs
+pub mod Loops
+pub mod Inductions
+pub mod PlainRuns

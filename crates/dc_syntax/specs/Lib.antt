@@ -1,0 +1,9 @@
+pub mod Names
+pub mod Params
+pub mod Value
+pub mod Run
+pub mod Costs
+pub mod Plain
+pub mod Table
+pub mod Trees
+pub mod Laws

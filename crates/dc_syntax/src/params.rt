@@ -1,0 +1,26 @@
+//! The parameters of a procedure.
+ghost use Rattle.dc_syntax.specs.Params.{params_of};
+ghost use Rattle.std.specs.Prelude.{◌≡◌, ◌↔◌, IsTrue, map, take};
+ghost use Rattle.std.specs.String.{string_bytes};
+
+use crate::names::Names;
+use crate::tree::Proc;
+
+/// The first `count` names, or all of them where there are fewer.
+fn first_names(names: &Names, count: usize) -> &[String]
+    ensures { map string_bytes result.now ≡ take count names.now }
+{
+    let all = names.as_slice();
+    if count < all.len() {
+        &all[..count]
+    } else {
+        all
+    }
+}
+
+/// Whether two procedures have equal numbers of parameters and equal names of them, in order.
+pub fn same_params(a: &Proc, b: &Proc) -> bool
+    ensures { IsTrue result ↔ ((a.now.params ≡ b.now.params) × (params_of a.now ≡ params_of b.now)) }
+{
+    a.params == b.params && first_names(&a.names, a.params) == first_names(&b.names, b.params)
+}
