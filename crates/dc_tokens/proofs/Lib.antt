@@ -1,0 +1,5 @@
+pub mod Front
+pub mod Fronts
+pub mod Numbers
+pub mod Readings
+pub mod Steps

@@ -1,0 +1,9 @@
+use Rattle.std.proofs.Common.{◌≡◌, ℕ, ◌-◌, ◌<◌, ◌≤◌, length, get_or, true}
+use Rattle.dc_tokens.specs.Spelling.{is_word_byte}
+use Rattle.dc_tokens.proofs.scan.word_len.Given as goal
+
+abbrev pub invariant-loop-n : goal.invariant-loop-n
+invariant-loop-n l = record { within : l.n ≤ length l.bytes; each : (i : ℕ) → i < l.n → is_word_byte (get_or l.bytes i 0) ≡ true }
+
+abbrev pub decreases-loop-n : goal.decreases-loop-n
+decreases-loop-n l = length l.bytes - l.n

@@ -1,0 +1,13 @@
+//! The tokens of a source text, or the first byte that stands in no token.
+#![tactic(auto)]
+
+mod lex;
+mod place;
+mod scan;
+#[cfg(test)]
+mod tests;
+mod token;
+
+pub use lex::{one_reading, tokens};
+pub use place::line_col;
+pub use token::{LexFault, Token, TokenKind};
