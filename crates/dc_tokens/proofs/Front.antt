@@ -8,15 +8,15 @@ use Rattle.dc_tokens.specs.declared.token.TokenKind.TheVariants as k
 use Rattle.dc_tokens.specs.Spelling.{is_letter, is_digit, is_word_byte, word_kind, short_sign, long_sign, sign_kind, kind_of}
 use Rattle.dc_tokens.specs.Pieces.{NoToken, Longest}
 
-and_false : (b : Bool) → b && false ≡ false
+pub and_false : (b : Bool) → b && false ≡ false
 and_false true = refl
 and_false false = refl
 
-and_left : (a b : Bool) → a && b ≡ true → a ≡ true
+pub and_left : (a b : Bool) → a && b ≡ true → a ≡ true
 and_left true b h = refl
 and_left false b h = absurd cc
 
-and_right : (a b : Bool) → a && b ≡ true → b ≡ true
+pub and_right : (a b : Bool) → a && b ≡ true → b ≡ true
 and_right true b h = h
 and_right false b h = absurd cc
 
@@ -27,7 +27,7 @@ not_so false h = refl
 letter_no_digit : (b : ℕ) → is_letter b ≡ true → is_digit b ≡ false
 letter_no_digit b h = grind (arith, nat_tests)
 
-not_equal : (a b : ℕ) → (a ≡ b → ⊥) → nat_eq a b ≡ false
+pub not_equal : (a b : ℕ) → (a ≡ b → ⊥) → nat_eq a b ≡ false
 not_equal a b h = grind (arith, nat_tests)
 
 -- a byte that passes a test is none that fails it
@@ -48,13 +48,13 @@ fails_one p (n ∷ ns) h zero l = not_so (p n) (and_left (not (p n)) _ h)
 fails_one p (n ∷ ns) h (suc i) l = fails_one p ns (and_right (not (p n)) _ h) i (omega arith)
 
 -- a byte with such a test begins no sign
-no_long : (p : ℕ → Bool) (b c : ℕ) → p b ≡ true → FailsAll p sign_bytes → long_sign b c ≡ None
+pub no_long : (p : ℕ → Bool) (b c : ℕ) → p b ≡ true → FailsAll p sign_bytes → long_sign b c ≡ None
 unfolding long_sign
 no_long p b c h g =
     let at : (i : ℕ) → i < 17 → nat_eq b (get_or sign_bytes i 0) ≡ false = λ i l. differs p b (get_or sign_bytes i 0) h (fails_one p sign_bytes g i l) in
     rw (at 8 (lit< tt), at 14 (lit< tt), at 9 (lit< tt), at 10 (lit< tt), at 15 (lit< tt), at 16 (lit< tt)) refl
 
-no_short : (p : ℕ → Bool) (b : ℕ) → p b ≡ true → FailsAll p sign_bytes → short_sign b ≡ None
+pub no_short : (p : ℕ → Bool) (b : ℕ) → p b ≡ true → FailsAll p sign_bytes → short_sign b ≡ None
 unfolding short_sign
 no_short p b h g =
     let at : (i : ℕ) → i < 17 → nat_eq b (get_or sign_bytes i 0) ≡ false = λ i l. differs p b (get_or sign_bytes i 0) h (fails_one p sign_bytes g i l) in
@@ -83,11 +83,11 @@ no_sign p b h g (c ∷ d ∷ v) = refl
 
 -- ---- the kind of a text, by its first byte
 
-word_text : (b : ℕ) (v : List ℕ) → is_letter b ≡ true → kind_of (b ∷ v) ≡ (if list_all is_word_byte v then Some (word_kind (b ∷ v)) else sign_kind (b ∷ v))
+pub word_text : (b : ℕ) (v : List ℕ) → is_letter b ≡ true → kind_of (b ∷ v) ≡ (if list_all is_word_byte v then Some (word_kind (b ∷ v)) else sign_kind (b ∷ v))
 unfolding kind_of
 word_text b v h = rw (h, letter_no_digit b h) refl
 
-number_text : (b : ℕ) (v : List ℕ) → is_letter b ≡ false → is_digit b ≡ true → kind_of (b ∷ v) ≡ (if list_all is_digit v then Some k.Number else sign_kind (b ∷ v))
+pub number_text : (b : ℕ) (v : List ℕ) → is_letter b ≡ false → is_digit b ≡ true → kind_of (b ∷ v) ≡ (if list_all is_digit v then Some k.Number else sign_kind (b ∷ v))
 unfolding kind_of
 number_text b v g h = rw (g, h) refl
 

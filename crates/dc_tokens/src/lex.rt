@@ -1,5 +1,5 @@
 //! The tokens of a whole text.
-ghost use Rattle.std.specs.Prelude.{◌≡◌, ◌+◌, ◌≤◌, ◌<◌, ◌^◌, ◌∷◌, ◌++◌, [], length, drop, IfOk, OnOk, MatchResult};
+ghost use Rattle.std.specs.Prelude.{◌≡◌, ◌+◌, ◌≤◌, ◌<◌, ◌^◌, ◌∷◌, ◌++◌, [], length, drop, IfOk, OnOk, IsAscii, MatchResult};
 ghost use Rattle.dc_tokens.specs.Texts.{Tokens, IsCause, IsRising, HasOneReading, with_token};
 
 use crate::scan::front_piece;
@@ -27,6 +27,7 @@ fn keep(found: &mut Vec<Token>, token: Option<Token>) -> Result<(), AllocError>
 /// begins no token, or the first digit of a number above 2147483647. The longest token is taken each time.
 pub fn tokens(alloc: Global, bytes: &[u8]) -> Result<Vec<Token>, LexFault>
     ensures cases { MatchResult result (λ v. Tokens 0 bytes.now v.items) (IsCause bytes.now) }
+    ensures ascii { OnOk result (IsAscii bytes.now) }
     ensures rising { IfOk result (λ v. IsRising 0 (length bytes.now) v.items) }
 {
     let mut found = Vec::new(alloc);

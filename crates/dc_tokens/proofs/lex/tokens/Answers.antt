@@ -1,6 +1,7 @@
 use Rattle.std.proofs.Common.{[], ap, subst, append-nil, arith, length, length-drop}
 use Rattle.std.proofs.lemmas.Result.{err_from_is_err_and}
 use Rattle.dc_tokens.specs.Texts.{Tokens}
+use Rattle.dc_tokens.proofs.OnlyAscii.{only_ascii}
 use Rattle.dc_tokens.proofs.Readings.{piece_some}
 use Rattle.dc_tokens.proofs.Steps.{end_at, found_more, fails_later, cause, rising}
 use Rattle.dc_tokens.proofs.lex.tokens.Goals as goal
@@ -25,3 +26,6 @@ returns-clause-cases c = subst (Tokens 0 c.args.bytes.now) (append-nil c.bytes.f
 
 pub returns-clause-rising : goal.returns-clause-rising
 returns-clause-rising c = rising (length c.args.bytes.now) (subst (Tokens 0 c.args.bytes.now) (append-nil c.bytes.found.items) (c.bytes.invariant.found [] (end_at c.bytes.at c.bytes.rest.now c.bytes-test.false))) (omega arith)
+
+pub returns-clause-ascii : goal.returns-clause-ascii
+returns-clause-ascii c = only_ascii (c.bytes.invariant.found [] (end_at c.bytes.at c.bytes.rest.now c.bytes-test.false))

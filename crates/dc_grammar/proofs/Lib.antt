@@ -1,0 +1,9 @@
+pub mod Tests
+pub mod OneAnswer
+pub mod Done
+pub mod Complete
+pub mod AllKinds
+pub mod Texts
+pub mod PlainReader
+pub mod LanguageReader
+pub mod Alone
