@@ -1,11 +1,11 @@
 -- Laws of the strict order of ℚ, of numbers above 0, and of factors that can be left out.
-use Rattle.std.specs.Prelude.{◌≡◌, ◌≢◌, ◌⊎◌, ℤ, pos, ◌≤ℤ◌, ◌<ℤ◌, [], ◌∷◌}
+use Rattle.std.specs.Prelude.{◌≡◌, ◌≢◌, ◌⊎◌, ℤ, pos, neg_ℤ, ◌*ℤ◌, ◌≤ℤ◌, ◌<ℤ◌, [], ◌∷◌}
 use Rattle.std.proofs.Common.{refl, sym, ap, ◌∙◌, arith, subst, subst₂, ⊎_elim}
 use Rattle.std.proofs.lemmas.Int.{ints}
-use Rattle.dc_math.specs.Integers.{≤ℤ_or}
-use Rattle.dc_math.specs.Rational.{ℚ, ◌+ℚ◌, ◌*ℚ◌, ◌-ℚ◌, neg_ℚ, of_ℤ, ◌≤ℚ◌, ◌<ℚ◌, <ℚ-≤ℚ, <ℚ-not, ≤ℚ_refl, ≤ℚ_antisymm, ≤ℚ_or, ≤ℚ-sub, NonNegative, NonNegative-*ℚ}
+use Rattle.dc_math.specs.Integers.{≤ℤ_or, *ℤ_assoc}
+use Rattle.dc_math.specs.Rational.{ℚ, Fraction, fraction_of, ratio, ratio_same, ratio_at_most, at_most_ratio, ratio-mul, ratio-neg, of_ℤ_is, ◌+ℚ◌, ◌*ℚ◌, ◌-ℚ◌, neg_ℚ, of_ℤ, ◌≤ℚ◌, ◌<ℚ◌, <ℚ-≤ℚ, <ℚ-not, ≤ℚ_refl, ≤ℚ_antisymm, ≤ℚ_or, ≤ℚ-sub, NonNegative, NonNegative-*ℚ}
 use Rattle.dc_math.specs.RationalRing.{ring, reads, read_nat, same_form, linear₁, linear₂, ≤ℚ_by, ≤ℚ_trans, *ℚ-≤ℚ}
-use Rattle.dc_math.specs.Inverse.{inverse, *ℚ-inverse}
+use Rattle.dc_math.specs.Inverse.{inverse, inverse_unique, *ℚ-inverse}
 use Rattle.dc_math.specs.Signs.{of_ℤ-≤, of_ℤ-≤_back, inverse_non_negative}
 use Rattle.dc_math.specs.Linear.{from₁, follows, times}
 
@@ -112,3 +112,37 @@ pub ≤ℚ-*ℚ_cancel : (x y z : ℚ) → (x *ℚ z) ≤ℚ (y *ℚ z) → Posi
 pub *ℚ_cancel : (x y z : ℚ) → x *ℚ z ≡ y *ℚ z → z ≢ of_ℤ (pos 0) → x ≡ y
 *ℚ_cancel x y z e n = linear₂ (inverse z) _ _ _ _ (neg_ℚ (x -ℚ y)) _ _ e (*ℚ-inverse z n)
     (ring (x ∷ y ∷ z ∷ inverse z ∷ []) (λ ρ p q r s. simp s (simp (p, q, r, read_nat ρ, reads) (same_form _ _ _ refl))))
+
+-- ---- a fraction is a quotient of whole numbers
+pub ratio-*ℚ-den : (p : Fraction) → ratio p *ℚ of_ℤ p.den ≡ of_ℤ p.num
+ratio-*ℚ-den p = rw (of_ℤ_is p.den, of_ℤ_is p.num) (ratio-mul p (fraction_of p.den) ∙ ratio_same _ (fraction_of p.num) (*ℤ_assoc p.num p.den (pos 1)))
+
+pub ratio_quotient : (p : Fraction) → ratio p ≡ of_ℤ p.num *ℚ inverse (of_ℤ p.den)
+ratio_quotient p =
+    let n = Positive_nonzero (of_ℤ p.den) (of_ℤ-< (pos 0) p.den (let h = p.den_positive in omega (arith, ints))) in
+    plain (ratio p) (of_ℤ p.num) (of_ℤ p.den) (inverse (of_ℤ p.den)) (ratio-*ℚ-den p) (*ℚ-inverse (of_ℤ p.den) n)
+  where
+    plain : (x n d i : ℚ) → x *ℚ d ≡ n → d *ℚ i ≡ of_ℤ (pos 1) → x ≡ n *ℚ i
+    plain x n d i h e = linear₂ i _ _ _ _ (neg_ℚ x) _ _ h e (ring (x ∷ n ∷ d ∷ i ∷ []) (λ ρ p q r s. simp (p, q, r, s, read_nat ρ, reads) (same_form _ _ _ refl)))
+
+pub of_ℤ-neg_ℤ : (z : ℤ) → of_ℤ (neg_ℤ z) ≡ neg_ℚ (of_ℤ z)
+of_ℤ-neg_ℤ z = rw (of_ℤ_is (neg_ℤ z), of_ℤ_is z) (sym (ratio-neg (fraction_of z) ∙ ratio_same _ _ refl))
+
+pub inverse-neg_ℚ : (x : ℚ) → x ≢ of_ℤ (pos 0) → inverse (neg_ℚ x) ≡ neg_ℚ (inverse x)
+inverse-neg_ℚ x n = sym (inverse_unique (neg_ℚ x) (neg_ℚ (inverse x)) (inverse (neg_ℚ x)) (both x (inverse x) (*ℚ-inverse x n)) (*ℚ-inverse (neg_ℚ x) (λ e. n (back x e))))
+  where
+    both : (x i : ℚ) → x *ℚ i ≡ of_ℤ (pos 1) → neg_ℚ x *ℚ neg_ℚ i ≡ of_ℤ (pos 1)
+    both x i e = linear₁ (of_ℤ (pos 1)) _ _ _ _ e (ring (x ∷ i ∷ []) (λ ρ p q. simp (p, q, read_nat ρ, reads) (same_form _ _ _ refl)))
+
+    back : (x : ℚ) → neg_ℚ x ≡ of_ℤ (pos 0) → x ≡ of_ℤ (pos 0)
+    back x e = linear₁ (neg_ℚ (of_ℤ (pos 1))) _ _ _ _ e (ring (x ∷ []) (λ ρ p. simp (p, read_nat ρ, reads) (same_form _ _ _ refl)))
+
+-- ---- the strict order of fractions
+pub ratio_below : (p q : Fraction) → (p.num *ℤ q.den) <ℤ (q.num *ℤ p.den) → ratio p <ℚ ratio q
+ratio_below p q h = not-<ℚ (ratio p) (ratio q) (λ l. no (p.num *ℤ q.den) (q.num *ℤ p.den) h (at_most_ratio q p l))
+  where
+    no : (x y : ℤ) → x <ℤ y → y ≤ℤ x → ⊥
+    no x y h k = absurd (omega (arith, ints))
+
+pub below_ratio : (p q : Fraction) → ratio p <ℚ ratio q → (p.num *ℤ q.den) <ℤ (q.num *ℤ p.den)
+below_ratio p q h = ⊎_elim (λ l. absurd (<ℚ-not (ratio p) (ratio q) h (ratio_at_most q p l))) (λ l. l) (≤ℤ_or (q.num *ℤ p.den) (p.num *ℤ q.den))

@@ -1,0 +1,4 @@
+mod Trees
+mod Refusals
+mod Ends
+mod Told

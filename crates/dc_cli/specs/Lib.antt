@@ -1,0 +1,6 @@
+pub mod Words
+pub mod Answer
+pub mod Causes
+pub mod Due
+pub mod Lines
+pub mod Reports

@@ -1,0 +1,59 @@
+//! The top call.
+ghost use Rattle.std.specs.Prelude.{◌≡◌, ◌≢◌, ◌⊎◌, ℕ, ◌≤◌, Some, None, IfErr, map};
+ghost use Rattle.std.specs.String.{string_bytes};
+ghost use Rattle.dc_cli.specs.Words.{names_in as names_of};
+ghost use Rattle.dc_cli.specs.Answer.{Succeeds};
+ghost use Rattle.dc_host.specs.Outside.{Rose};
+ghost use Rattle.dc_cli.specs.Due.{IsMissing, HasFault, HasAnswer};
+ghost use Rattle.dc_cli.specs.Reports.{Said, IsRefusal, Written, IsEarly};
+
+use crate::outcome::answer;
+use crate::refusal::Refusal;
+use crate::report::report;
+use dc_host::{Sink, Store, put_all};
+use std::alloc::Global;
+
+/// Runs the command that the words give, and answers the status of the program.
+pub fn top<S: Store, O: Sink, E: Sink>(
+    alloc: Global,
+    words: &Vec<String>,
+    store: &mut S,
+    out: &mut O,
+    err: &mut E,
+) -> u8
+    ensures threshold { result ≡ 0 → Succeeds (map string_bytes words.now.items) (S.files store.old) (O.written out.old) (O.written out.new) }
+    ensures refused { result ≢ 0 → IsRefusal (map string_bytes words.now.items) (S.files store.old) (S.faults store.old) (S.faults store.new) (O.written out.old) (O.written out.new) (O.faults out.old) (O.faults out.new) (Said (E.written err.old) (E.written err.new) (E.faults err.old) (E.faults err.new)) result }
+    ensures usage { names_of (map string_bytes words.now.items) ≡ None → (result ≡ 3) ⊎ (result ≡ 10) }
+    ensures missing { IsMissing (map string_bytes words.now.items) (S.files store.old) → (result ≡ 8) ⊎ (result ≡ 10) }
+    ensures faulty { HasFault (map string_bytes words.now.items) (S.files store.old) → ¬ Rose (S.faults store.old) (S.faults store.new) → (result ≡ 4) ⊎ (result ≡ 10) }
+    ensures complete { HasAnswer (map string_bytes words.now.items) (S.files store.old) → ¬ Rose (S.faults store.old) (S.faults store.new) → ¬ Rose (O.faults out.old) (O.faults out.new) → (result ≡ 0) ⊎ (result ≡ 10) }
+    ensures untouched { result ≢ 0 → result ≢ 9 → out.new ≡ out.old }
+    ensures quiet { result ≡ 0 → err.new ≡ err.old }
+    ensures files { S.files store.new ≡ S.files store.old }
+    ensures counts { (S.faults store.old ≤ S.faults store.new) × (O.faults out.old ≤ O.faults out.new) × (E.faults err.old ≤ E.faults err.new) }
+{
+    match written(alloc, words, store, out) {
+        Ok(()) => 0,
+        Err(refusal) => report(alloc, &refusal, err),
+    }
+}
+
+/// Writes the output that is due.
+fn written<S: Store, O: Sink>(
+    alloc: Global,
+    words: &Vec<String>,
+    store: &mut S,
+    out: &mut O,
+) -> Result<(), Refusal>
+    ensures ends { Written (map string_bytes words.now.items) (S.files store.old) (S.faults store.old) (S.faults store.new) (O.written out.old) (O.written out.new) (O.faults out.old) (O.faults out.new) result }
+    ensures untouched { IfErr result (λ r. IsEarly r → out.new ≡ out.old) }
+    ensures files { S.files store.new ≡ S.files store.old }
+    ensures store_later { S.faults store.old ≤ S.faults store.new }
+    ensures out_later { O.faults out.old ≤ O.faults out.new }
+{
+    let output = answer(alloc, words, store)?;
+    match put_all(out, output.as_bytes()) {
+        Ok(()) => Ok(()),
+        Err(_) => Err(Refusal::Unwritten),
+    }
+}

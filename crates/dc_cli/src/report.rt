@@ -1,0 +1,100 @@
+//! The status of a refusal and its line.
+ghost use Rattle.std.specs.Prelude.{◌≡◌, ◌≤◌, IfOk, MatchResult, codes};
+ghost use Rattle.std.specs.String.{string_bytes};
+ghost use Rattle.dc_cli.specs.Lines.{unread_text, source_text, side_text, kind_text, usage_text};
+ghost use Rattle.dc_cli.specs.Reports.{Said, Reported};
+
+use crate::refusal::Refusal;
+use dc_host::{Sink, put_all};
+use dc_parse::{Kind, ParseFault};
+use dc_syntax::Side;
+use std::alloc::{AllocError, Global};
+
+/// Writes the line of a refusal, and answers its status. Where there is no memory for the line, the
+/// line and the status are those of want of memory. A fault of `err` changes nothing else.
+pub fn report<E: Sink>(alloc: Global, refusal: &Refusal, err: &mut E) -> u8
+    ensures line { Reported refusal.now (Said (E.written err.old) (E.written err.new) (E.faults err.old) (E.faults err.new)) result }
+    ensures later { E.faults err.old ≤ E.faults err.new }
+{
+    match refusal {
+        Refusal::Usage => tell(err, usage(), 3),
+        Refusal::Unread(name) => tell_built(err, unread_line(alloc, name.as_str()), 8),
+        Refusal::Source(side, fault) => tell_built(err, source_line(alloc, *side, fault), 4),
+        Refusal::Unwritten => tell(err, "write fault\n", 9),
+        Refusal::NoMemory => tell(err, "no memory\n", 10),
+    }
+}
+
+fn tell<E: Sink>(err: &mut E, line: &str, status: u8) -> u8
+    ensures said { Said (E.written err.old) (E.written err.new) (E.faults err.old) (E.faults err.new) line.now }
+    ensures later { E.faults err.old ≤ E.faults err.new }
+    ensures status { result ≡ status }
+{
+    let _ = put_all(err, line.as_bytes());
+    status
+}
+
+fn tell_built<E: Sink>(err: &mut E, line: Result<String, AllocError>, status: u8) -> u8
+    ensures said { MatchResult line (λ l. Said (E.written err.old) (E.written err.new) (E.faults err.old) (E.faults err.new) (string_bytes l) × (result ≡ status)) (λ _. Said (E.written err.old) (E.written err.new) (E.faults err.old) (E.faults err.new) (codes "no memory\n") × (result ≡ 10)) }
+    ensures later { E.faults err.old ≤ E.faults err.new }
+{
+    match line {
+        Ok(line) => tell(err, line.as_str(), status),
+        Err(AllocError) => tell(err, "no memory\n", 10),
+    }
+}
+
+fn unread_line(alloc: Global, name: &str) -> Result<String, AllocError>
+    ensures { IfOk result (λ text. string_bytes text ≡ unread_text name.now) }
+{
+    let text = format!(in alloc; "read fault: {name}\n")?;
+    Ok(text)
+}
+
+fn source_line(alloc: Global, side: Side, fault: &ParseFault) -> Result<String, AllocError>
+    ensures { IfOk result (λ text. string_bytes text ≡ source_text side fault.now) }
+{
+    let side = side_word(side);
+    let (line, col) = (fault.line, fault.col);
+    let kind = kind_word(fault.kind);
+    let text = format!(in alloc; "source fault: {side} {line}:{col} {kind}\n")?;
+    Ok(text)
+}
+
+fn side_word(side: Side) -> &'static str
+    ensures { result.now ≡ side_text side }
+{
+    match side {
+        Side::New => "new",
+        Side::Old => "old",
+    }
+}
+
+fn kind_word(kind: Kind) -> &'static str
+    ensures { result.now ≡ kind_text kind }
+{
+    match kind {
+        Kind::TooLong => "TooLong",
+        Kind::NotAscii => "NotAscii",
+        Kind::BadCharacter => "BadCharacter",
+        Kind::LiteralTooWide => "LiteralTooWide",
+        Kind::Unexpected => "Unexpected",
+        Kind::Unclosed => "Unclosed",
+        Kind::TooDeep => "TooDeep",
+        Kind::TooManyNames => "TooManyNames",
+        Kind::NameTwice => "NameTwice",
+        Kind::UnknownName => "UnknownName",
+        Kind::NotAffine => "NotAffine",
+        Kind::DegreeTooHigh => "DegreeTooHigh",
+        Kind::CoefficientRange => "CoefficientRange",
+        Kind::ConditionTooWide => "ConditionTooWide",
+        Kind::NoMemory => "NoMemory",
+    }
+}
+
+#[tactic(auto, unfolding(crate::specs::Lines::usage_text))]
+fn usage() -> &'static str
+    ensures { result.now ≡ usage_text }
+{
+    "usage: diffcost analyse NEW OLD [--when TEXT] [--degree 0..3] [--products 1..3] [--rows intervals|pairs] [--pivots 1..1000000]\nusage: diffcost check NEW OLD CERT [--when TEXT]\nusage: diffcost sample SEED COUNT\n"
+}

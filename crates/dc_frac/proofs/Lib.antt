@@ -1,0 +1,9 @@
+pub mod Words
+pub mod ShortWays
+pub mod Values
+pub mod SumLaws
+pub mod ProductLaws
+pub mod FitLaws
+pub mod Sizes
+pub mod Orders
+pub mod PairLaws

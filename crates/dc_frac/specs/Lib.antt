@@ -1,0 +1,5 @@
+pub mod Fits
+pub mod Parts
+pub mod Value
+pub mod ValueLaws
+pub mod Laws

@@ -1,0 +1,43 @@
+//! Laws of pairs of whole numbers that need not be reduced: what their sums, products and order obey.
+
+ghost use Rattle.dc_frac.specs.Laws.{Equality, Sums, Products, Order, Numbers, LowestTerms, Floors, CommonDivisors};
+
+/// Equality of pairs is one, and sums, products and order go by it.
+pub fn equality()
+    ensures { Equality }
+{}
+
+/// Sums are commutative and associative; 0/1 is zero, and the negation is opposite.
+pub fn sums()
+    ensures { Sums }
+{}
+
+/// Products are commutative and associative and distribute over sums; 1/1 is one.
+pub fn products()
+    ensures { Products }
+{}
+
+/// The order is total, and kept by sums and by products with what is at least 0.
+pub fn order()
+    ensures { Order }
+{}
+
+/// A rational number is a class of equal pairs; its sums, products and order are those of the pairs.
+pub fn numbers()
+    ensures { Numbers }
+{}
+
+/// A number has one pair in lowest terms, and a fraction's parts are that pair: a fraction is fixed by its value.
+pub fn lowest_terms()
+    ensures { LowestTerms }
+{}
+
+/// The floor is at most its number, which is below the next whole number.
+pub fn floors()
+    ensures { Floors }
+{}
+
+/// The greatest common divisor divides both numbers, and each common divisor divides it.
+pub fn common_divisors()
+    ensures { CommonDivisors }
+{}
