@@ -8,10 +8,10 @@ use Rattle.dc_grammar.proofs.Done.{Done, done}
 use Rattle.dc_grammar.proofs.Complete.{Starts, starts, complete}
 
 -- nothing may stand after the text
-every_false : {K : Type 0} (ks : List K) (p : K → Bool) → ((k : K) → p k ≡ true) → every ks p ≡ true
+pub every_all : {K : Type 0} (ks : List K) (p : K → Bool) → ((k : K) → p k ≡ true) → every ks p ≡ true
 unfolding every
-every_false [] p h = refl
-every_false (k ∷ ks) p h = both (p k) (every ks p) (h k) (every_false ks p h)
+every_all [] p h = refl
+every_all (k ∷ ks) p h = both (p k) (every ks p) (h k) (every_all ks p h)
   where
     both : (a b : Bool) → a ≡ true → b ≡ true → a && b ≡ true
     both true b g h = h
@@ -19,7 +19,7 @@ every_false (k ∷ ks) p h = both (p k) (every ks p) (h k) (every_false ks p h)
 
 ends_here : {K N T : Type 0} {R : Reader K N T} → (each : LooksAhead R) → (x : N) → ll1 R each.kinds (ref x) (λ k. false) ≡ true
 unfolding ll1 implies
-ends_here {R = R} each x = every_false each.kinds (λ k. implies false (has R.grammar.same (R.follow x) k)) (λ k. so (has R.grammar.same (R.follow x) k))
+ends_here {R = R} each x = every_all each.kinds (λ k. implies false (has R.grammar.same (R.follow x) k)) (λ k. so (has R.grammar.same (R.follow x) k))
   where
     so : (b : Bool) → implies false b ≡ true
     so b = refl
@@ -40,7 +40,7 @@ ends_whole {R = R} each x ts a d =
 pub fails_whole : {K N T : Type 0} {R : Reader K N T} → LooksAhead R → (x : N) (ts us : List T) → Parses R (ref x) ts (fail us) → (a : Tree T) → Derives R.grammar (ref x) ts a → ⊥
 fails_whole each x ts us d a e = fail_ok (one_answer d (alone each e))
 
-list_cons : {A T : Type 0} {t : T} {w : List T} → t ∷ w ≡ [] → A
+pub list_cons : {A T : Type 0} {t : T} {w : List T} → t ∷ w ≡ [] → A
 list_cons e = absurd cc
 
 pub more_whole : {K N T : Type 0} {R : Reader K N T} → LooksAhead R → (x : N) (ts us : List T) (b : Tree T) → 0 < length us → Parses R (ref x) ts (ok b us)

@@ -1,12 +1,12 @@
 -- One token of lookahead serves the reader of the whole language.
-use Rattle.std.proofs.Common.{◌≡◌, true, refl}
+use Rattle.std.proofs.Common.{◌≡◌, ℕ, true, refl}
 use Rattle.dc_tokens.specs.declared.token.TokenKind.TheVariants as k
 use Rattle.dc_grammar.specs.Kinds.{is, kinds}
 use Rattle.dc_grammar.specs.Grammar.{has}
 use Rattle.dc_grammar.specs.Language.{Name, source, names, stmt, assigned, choice, block, expr, term, unary, cond, conj, fact, rules, language}
 use Rattle.dc_grammar.specs.Reading.{nullable, firsts}
 use Rattle.dc_grammar.specs.Readers.{language_reader, begins_of, follow_of}
-use Rattle.dc_grammar.specs.Lookahead.{every, implies, then_, ll1, LooksAhead}
+use Rattle.dc_grammar.specs.Lookahead.{every, implies, then_, ll1, below, LooksAhead}
 use Rattle.dc_grammar.proofs.AllKinds.{all_kinds, same_self, some_token}
 use Rattle.dc_grammar.proofs.Texts.{Text, text_tok, text_seq, text_left, text_right, text_name, text_nil, text_many}
 
@@ -84,11 +84,42 @@ one_way cond = refl
 one_way conj = refl
 one_way fact = refl
 
+rank : Name → ℕ
+rank source = 0
+rank names = 0
+rank stmt = 0
+rank block = 0
+rank unary = 0
+rank term = 1
+rank expr = 2
+rank fact = 3
+rank conj = 4
+rank cond = 5
+rank choice = 6
+rank assigned = 6
+
+no_way_back : (x : Name) → below language_reader rank (rank x) (rules x) ≡ true
+unfolding below rank
+no_way_back source = refl
+no_way_back names = refl
+no_way_back stmt = refl
+no_way_back assigned = refl
+no_way_back choice = refl
+no_way_back block = refl
+no_way_back expr = refl
+no_way_back term = refl
+no_way_back unary = refl
+no_way_back cond = refl
+no_way_back conj = refl
+no_way_back fact = refl
+
 pub language_ahead : LooksAhead language_reader
 language_ahead = record {
   kinds = kinds;
   all_kinds = all_kinds;
   same_self = same_self;
+  rank = rank;
+  no_way_back = no_way_back;
   some_token = some_token;
   some_text = some_text;
   empty_right = empty_right;

@@ -7,3 +7,8 @@ pub mod Texts
 pub mod PlainReader
 pub mod LanguageReader
 pub mod Alone
+pub mod Total
+pub mod Verdicts
+pub mod Right
+pub mod Deepening
+pub mod PlainInLanguage

@@ -6,3 +6,6 @@ pub mod Reading
 pub mod Lookahead
 pub mod Readers
 pub mod Trees
+pub mod Depth
+pub mod Verdicts
+pub mod Laws

@@ -3,4 +3,7 @@
 //! The functions of [`laws`] have no code: their contracts are the laws of the definitions in `specs/`.
 #![tactic(auto)]
 
+mod depth;
 pub mod laws;
+
+pub use depth::first_deep;
