@@ -1,4 +1,4 @@
-//! The top call.
+//! The top call: from the words of the command line to a status.
 ghost use Rattle.std.specs.Prelude.{◌≡◌, ◌≢◌, ◌⊎◌, ℕ, ◌≤◌, Some, None, IfErr, map};
 ghost use Rattle.std.specs.String.{string_bytes};
 ghost use Rattle.dc_cli.specs.Words.{names_in as names_of};
@@ -13,7 +13,20 @@ use crate::report::report;
 use dc_host::{Sink, Store, put_all};
 use std::alloc::Global;
 
-/// Runs the command that the words give, and answers the status of the program.
+/// Runs the command that the words after the program's name give, and answers the status of the
+/// program. The one command is `analyse NEW OLD`, on two plain programs.
+///
+/// The whole output is built before the first write. With status 0 `out` has gained the lines
+/// `threshold t` and `whole t`, and every finished run of the new program costs exactly t more than
+/// every finished run of the old one. Every other status has its line on `err`:
+///
+/// - 3, the usage: the words are no command;
+/// - 8, `read fault: NAME`: the file was not handed out, the new one before the old one;
+/// - 4, `source fault: SIDE L:C KIND`: the text is no plain program, the new one before the old one;
+/// - 9, `write fault`: `out` has gained a proper prefix of the output alone;
+/// - 10, `no memory`: `out` is as before.
+///
+/// A fault of `err` changes neither the status nor anything else.
 pub fn top<S: Store, O: Sink, E: Sink>(
     alloc: Global,
     words: &Vec<String>,
@@ -38,7 +51,7 @@ pub fn top<S: Store, O: Sink, E: Sink>(
     }
 }
 
-/// Writes the output that is due.
+/// Writes the output that is due, or says why there is none.
 fn written<S: Store, O: Sink>(
     alloc: Global,
     words: &Vec<String>,

@@ -18,7 +18,7 @@ use std::alloc::{AllocError, Global};
 
 const TEXT_LIMIT: usize = 65536;
 
-/// The output that is due.
+/// The whole output that is due. The files are fetched and then read, the new one before the old one.
 #[tactic(auto, using(crate::proofs::Trees::plain_body))]
 pub fn answer<S: Store>(
     alloc: Global,
@@ -43,6 +43,7 @@ pub fn answer<S: Store>(
     }
 }
 
+/// The text of a file, with one byte more than a source may have where it is longer.
 fn fetch_text<S: Store>(alloc: Global, store: &mut S, name: &str) -> Result<Vec<u8>, Refusal>
     ensures files { S.files store.new ≡ S.files store.old }
     ensures later { S.faults store.old ≤ S.faults store.new }
@@ -57,6 +58,7 @@ fn fetch_text<S: Store>(alloc: Global, store: &mut S, name: &str) -> Result<Vec<
     }
 }
 
+/// The refusal of a file that was not handed out.
 fn unread(alloc: Global, name: &str) -> Refusal
     ensures { IsUnreadOf name.now result }
 {
@@ -66,6 +68,7 @@ fn unread(alloc: Global, name: &str) -> Refusal
     }
 }
 
+/// The program that a source says.
 fn tree_of(alloc: Global, side: Side, text: &[u8]) -> Result<Proc, Refusal>
     ensures ok { IfOk result (IsPlainTree text.now) }
     ensures refused { IfErr result (Unparsed side text.now) }
@@ -79,7 +82,7 @@ fn tree_of(alloc: Global, side: Side, text: &[u8]) -> Result<Proc, Refusal>
     }
 }
 
-/// The difference of the costs.
+/// The cost of the new program less that of the old one.
 fn threshold(new: &Proc, old: &Proc) -> i128
     requires new_plain { IsPlain new.now }
     requires old_plain { IsPlain old.now }
@@ -91,6 +94,7 @@ fn threshold(new: &Proc, old: &Proc) -> i128
     }
 }
 
+/// The two lines of a threshold, which is whole.
 fn lines(alloc: Global, t: i128) -> Result<String, AllocError>
     ensures { IfOk result (λ text. string_bytes text ≡ lines_of t) }
 {

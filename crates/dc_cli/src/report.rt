@@ -25,6 +25,7 @@ pub fn report<E: Sink>(alloc: Global, refusal: &Refusal, err: &mut E) -> u8
     }
 }
 
+/// Writes a line, and answers the status that goes with it.
 fn tell<E: Sink>(err: &mut E, line: &str, status: u8) -> u8
     ensures said { Said (E.written err.old) (E.written err.new) (E.faults err.old) (E.faults err.new) line.now }
     ensures later { E.faults err.old ≤ E.faults err.new }
@@ -34,6 +35,7 @@ fn tell<E: Sink>(err: &mut E, line: &str, status: u8) -> u8
     status
 }
 
+/// Writes a line that wanted memory, or that there was none.
 fn tell_built<E: Sink>(err: &mut E, line: Result<String, AllocError>, status: u8) -> u8
     ensures said { MatchResult line (λ l. Said (E.written err.old) (E.written err.new) (E.faults err.old) (E.faults err.new) (string_bytes l) × (result ≡ status)) (λ _. Said (E.written err.old) (E.written err.new) (E.faults err.old) (E.faults err.new) (codes "no memory\n") × (result ≡ 10)) }
     ensures later { E.faults err.old ≤ E.faults err.new }
