@@ -1,0 +1,10 @@
+use Rattle.dc_lp.specs.Folds.{numbers}
+use Rattle.dc_lp.specs.Verdicts.{AllHold, primal_test, columns}
+use Rattle.std.proofs.Common.{◌+◌}
+use Rattle.dc_lp.proofs.check.check_primal.Given as goal
+
+abbrev pub invariant-loop-j : goal.invariant-loop-j
+invariant-loop-j l = AllHold (primal_test l.p (numbers l.x)) l.j
+
+abbrev pub invariant-loop-i : goal.invariant-loop-i
+invariant-loop-i l = AllHold (primal_test l.p (numbers l.x)) (columns l.p + l.i)

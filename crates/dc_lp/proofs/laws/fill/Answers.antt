@@ -1,0 +1,5 @@
+use Rattle.dc_lp.specs.Fills.{fills}
+use Rattle.dc_lp.proofs.laws.fill.Goals as goal
+
+pub returns : goal.returns
+returns c = fills

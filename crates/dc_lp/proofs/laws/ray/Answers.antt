@@ -1,0 +1,5 @@
+use Rattle.dc_lp.specs.Duality.{ray}
+use Rattle.dc_lp.proofs.laws.ray.Goals as goal
+
+pub returns : goal.returns
+returns c = ray

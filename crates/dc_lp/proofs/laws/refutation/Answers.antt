@@ -1,0 +1,5 @@
+use Rattle.dc_lp.specs.Duality.{excludes}
+use Rattle.dc_lp.proofs.laws.refutation.Goals as goal
+
+pub returns : goal.returns
+returns c = excludes

@@ -1,0 +1,26 @@
+//! Laws of linear problems over the rational numbers, for vectors of any numbers.
+
+ghost use Rattle.dc_lp.specs.Laws.{WeakDuality, BestByDual, RefutationExcludes, RayGoesOn, Fills};
+
+/// Weak duality: a solution costs at least the right side of each dual. So a solution whose cost is the right side of a dual is
+/// a best one.
+pub fn duality()
+    ensures weak { WeakDuality }
+    ensures best { BestByDual }
+{}
+
+/// A problem with a refutation has no solution (the easy direction of Farkas' lemma).
+pub fn refutation()
+    ensures { RefutationExcludes }
+{}
+
+/// From a solution on along a ray, the cost falls below every bound.
+pub fn ray()
+    ensures { RayGoesOn }
+{}
+
+/// The fill of a pivot is fixed by where the zeros are before it: it is the number of crossings of an entry of the pivot's column
+/// with one of its row at which there is none.
+pub fn fill()
+    ensures { Fills }
+{}

@@ -1,0 +1,6 @@
+pub mod Merge
+pub mod Monos
+pub mod Products
+pub mod Polys
+pub mod Substitution
+pub mod Small

@@ -1,0 +1,5 @@
+use Rattle.dc_poly.specs.Values.{coef-plus}
+use Rattle.dc_poly.proofs.laws.coefficients_add_up.Goals as goal
+
+pub returns : goal.returns
+returns c p q m = coef-plus p q m
