@@ -1,0 +1,13 @@
+pub mod Rows
+pub mod Segment
+pub mod Ties
+pub mod Phase
+pub mod Count
+pub mod Choices
+pub mod Start
+pub mod Kept
+pub mod Whole
+pub mod Opposites
+pub mod Certificates
+pub mod Outcomes
+pub mod Rationals

@@ -1,0 +1,35 @@
+//! Laws of the pivot run, for each linear problem over the rational numbers (Bland, New Finite Pivoting Rules for the Simplex
+//! Method, 1977).
+
+ghost use Rattle.dc_pivots.specs.Laws.{NeverRepeats, Ends, EndsSoon, NeverSpent, PhaseOneLeaves, StayOpposite, EndsRight, EndsTrue};
+
+/// No set of basic columns comes twice in a run, whatever the phases: the pivot rule never goes round in a circle.
+pub fn bases_differ()
+    ensures { NeverRepeats }
+{}
+
+/// Each run ends. With m equations in n unknowns it makes fewer pivots than there are sets of m columns among n + m, so a budget of
+/// as many is never spent.
+pub fn runs_end()
+    ensures ends { Ends }
+    ensures fewer { EndsSoon }
+    ensures enough { NeverSpent }
+{}
+
+/// In phase one a row leaves wherever a column enters.
+pub fn phase_one_leaves()
+    ensures { PhaseOneLeaves }
+{}
+
+/// Real columns that are each other's negatives, and whose costs are, stay so. They are never both basic; while one is basic the other
+/// is 0 in both cost rows and doesn't enter; of the basic solution, and of the ray, one of the two is 0.
+pub fn opposites_stay()
+    ensures { StayOpposite }
+{}
+
+/// Wherever a run ends, its last table has a certificate: a solution and a dual of equal value, a refutation, or a solution and a ray.
+/// So no solution costs less than the value, there is no solution, or the cost falls below every bound.
+pub fn ends_right()
+    ensures shown { EndsRight }
+    ensures so { EndsTrue }
+{}
