@@ -1,8 +1,8 @@
 -- What is true of each run, over any ordered field.
-use Rattle.std.specs.Prelude.{◌≡◌, ◌≢◌, ℕ, zero, suc, ◌+◌, ◌<◌, ◌≤◌, ◌⊎◌, length, Some, None}
+use Rattle.std.specs.Prelude.{◌≡◌, ◌≢◌, ℕ, zero, suc, ◌+◌, ◌<◌, ◌≤◌, ◌⊎◌, true, length, slice_index, Some, None}
 use Rattle.dc_math.specs.Field.{Field}
 use Rattle.dc_lp.specs.Linear.{Linear}
-use Rattle.dc_lp.specs.Tables.{at, entering, ratio_row}
+use Rattle.dc_lp.specs.Tables.{Table, at, right, entering, ratio_row}
 use Rattle.dc_pivots.specs.Runs.{State, Phase, Pivot, End, Unbounded, due_at, run, IsOver, Spent, Basic, HaveOneBasis}
 use Rattle.dc_pivots.specs.Vectors.{solution_at, direction_at}
 
@@ -13,6 +13,17 @@ choose zero (suc k) = 0
 choose (suc n) (suc k) = choose n k + choose n (suc k)
 
 module _ (Q : Type 0) (F : Field Q) where
+  -- a table of the problem's size, with a basic column for each equation and no negative right side
+  pub record IsFeasible (p : Linear Q) (t : Table Q) : Type 0 where
+    pub real : t.real ≡ p.columns
+    pub rows : length t.basis ≡ p.equations
+    pub basis : (i : ℕ) → i < p.equations → slice_index t.basis i < p.columns + p.equations
+    pub right_sides : (i : ℕ) → i < p.equations → F.nonneg (at Q F t i (right Q F t)) ≡ true
+
+  -- each table of the run is such a table
+  abbrev pub StaysFeasible : Linear Q → Type 0
+  StaysFeasible p = (x : ℕ) (s : State Q) → run Q F p x ≡ Some s → IsFeasible p s.table
+
   -- no set of basic columns comes twice
   abbrev pub NeverRepeats : Linear Q → Type 0
   NeverRepeats p = (i k : ℕ) (s t : State Q) → run Q F p i ≡ Some s → run Q F p k ≡ Some t → i < k → HaveOneBasis s.table t.table → ⊥
