@@ -1,0 +1,52 @@
+-- Coefficients within bounds: by a scan of the terms, of one monomial, and negated.
+use Rattle.std.specs.Prelude.{◌≡◌, ◌≤◌, Bool, true, false, cond, ◌&&◌, leb, [], ◌∷◌, ℤ, pos, neg_ℤ, ◌+ℤ◌, ◌-ℤ◌, unsigned_abs, refl}
+use Rattle.std.proofs.Common.{sym, ◌∙◌, ap, ap₂, subst, arith, SFits}
+use Rattle.std.proofs.lemmas.Bool.{leb-true}
+use Rattle.std.specs.Int.{w64, w128}
+use Rattle.std.proofs.lemmas.Int.{ints, fits_signed_from_abs}
+use Rattle.dc_poly.specs.Terms.{Exponents, TermList, same_mono, coef, Canonical}
+use Rattle.dc_poly.specs.Canon.{coef_ahead, same_mono_is}
+use Rattle.dc_poly.specs.Sums.{negated}
+use Rattle.dc_poly.specs.Terms.{Ahead}
+use Rattle.dc_affine.specs.Forms.{most, coefs_fit}
+use Rattle.dc_affine.specs.Gaps.{signed}
+use Rattle.dc_affine.proofs.FormLaws.{and_both}
+
+-- the coefficient of any monomial
+pub coef_fits : (p : TermList) (m : Exponents) → Canonical p → coefs_fit p ≡ true → unsigned_abs (coef p m) ≤ most
+coef_fits [] m k h = omega arith
+coef_fits (t ∷ p) m k h = by (and_both (leb (unsigned_abs t.coef) most) (coefs_fit p) h) (coef_fits p m k.2) (same_mono t.mono m) refl
+  where
+    by : (leb (unsigned_abs t.coef) most ≡ true) × (coefs_fit p ≡ true) → (coefs_fit p ≡ true → unsigned_abs (coef p m) ≤ most) → (b : Bool) → same_mono t.mono m ≡ b → unsigned_abs (cond b t.coef (pos 0) +ℤ coef p m) ≤ most
+    by q r true e =
+        let a = leb-true (unsigned_abs t.coef) most q.0 in
+        let z : coef p m ≡ pos 0 = coef_ahead m p (subst (λ y. Ahead y p) (same_mono_is t.mono m e) k.1) in
+        omega (arith, ints)
+    by q r false e = let o = r q.1 in omega (arith, ints)
+
+size-neg : (c : ℤ) → unsigned_abs (neg_ℤ c) ≡ unsigned_abs c
+size-neg c = omega (arith, ints)
+
+pub fits-negated : (p : TermList) → coefs_fit (negated p) ≡ coefs_fit p
+fits-negated [] = refl
+fits-negated (t ∷ p) = ap₂ (λ x b. leb x most && b) (size-neg t.coef) (fits-negated p)
+
+pub small_128 : (z : ℤ) → unsigned_abs z ≤ 2147483648 → SFits w128 z
+small_128 z h = fits_signed_from_abs w128 z (omega arith)
+
+pub small_64 : (z : ℤ) → unsigned_abs z ≤ 2147483648 → SFits w64 z
+small_64 z h = fits_signed_from_abs w64 z (omega arith)
+
+pub ruleset reading = (coef_fits, small_128, small_64)
+
+pub turned_small : (z : ℤ) → unsigned_abs z ≤ 2147483648 → unsigned_abs (pos 0 -ℤ z) ≤ 2147483648
+turned_small z h = omega (arith, ints)
+
+pub turned_value : (b : Bool) (z y : ℤ) → b ≡ true → z ≡ y → pos 0 -ℤ z ≡ signed b y
+turned_value b z y e f = ap (λ (u : ℤ). pos 0 -ℤ u) f ∙ minus y ∙ ap (λ t. signed t y) (sym e)
+  where
+    minus : (y : ℤ) → pos 0 -ℤ y ≡ neg_ℤ y
+    minus y = omega (arith, ints)
+
+pub kept_value : (b : Bool) (z y : ℤ) → b ≡ false → z ≡ y → z ≡ signed b y
+kept_value b z y e f = f ∙ ap (λ t. signed t y) (sym e)

@@ -1,0 +1,14 @@
+//! Normal forms of expressions, affine atoms, and conditions as conjunctions of atoms.
+#![tactic(auto)]
+
+mod atom;
+mod condition;
+mod form;
+pub mod laws;
+
+pub use atom::Atom;
+pub use condition::dnf;
+pub use form::{FormFault, affine, normal};
+
+#[cfg(test)]
+mod tests;
