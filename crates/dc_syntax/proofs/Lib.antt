@@ -1,4 +1,5 @@
 pub mod Keys
+pub mod Texts
 pub mod Parts
 pub mod Runs
 pub mod Loops

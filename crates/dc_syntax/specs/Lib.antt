@@ -7,3 +7,4 @@ pub mod Plain
 pub mod Table
 pub mod Trees
 pub mod Laws
+pub mod Text

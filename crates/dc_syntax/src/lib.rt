@@ -12,12 +12,16 @@
 #![tactic(auto)]
 
 pub mod laws;
+mod layer;
 mod names;
 mod params;
+mod print;
 mod tree;
 
+pub use layer::Layer;
 pub use names::{Name, Names, ascii_text};
 pub use params::same_params;
+pub use print::print_proc;
 pub use tree::{Cond, Count, Expr, Proc, Rel, Side, Stmt};
 
 #[cfg(test)]

@@ -1,13 +1,13 @@
 //! The parameters of a procedure.
 ghost use Rattle.dc_syntax.specs.Params.{params_of};
-ghost use Rattle.std.specs.Prelude.{◌≡◌, ◌↔◌, IsTrue, map, take};
+ghost use Rattle.std.specs.Prelude.{◌≡◌, ◌↔◌, IsTrue, map, take, drop};
 ghost use Rattle.std.specs.String.{string_bytes};
 
 use crate::names::Names;
 use crate::tree::Proc;
 
 /// The first `count` names, or all of them where there are fewer.
-fn first_names(names: &Names, count: usize) -> &[String]
+pub(crate) fn first_names(names: &Names, count: usize) -> &[String]
     ensures { map string_bytes result.now ≡ take count names.now }
 {
     let all = names.as_slice();
@@ -15,6 +15,19 @@ fn first_names(names: &Names, count: usize) -> &[String]
         &all[..count]
     } else {
         all
+    }
+}
+
+/// The names after the first `count`.
+#[tactic(auto, using(crate::proofs::Texts::later))]
+pub(crate) fn later_names(names: &Names, count: usize) -> &[String]
+    ensures { map string_bytes result.now ≡ drop count names.now }
+{
+    let all = names.as_slice();
+    if count < all.len() {
+        &all[count..]
+    } else {
+        &[]
     }
 }
 

@@ -1,0 +1,8 @@
+pub mod Places
+pub mod Tests
+pub mod Firsts
+pub mod Flats
+pub mod Links
+pub mod Ratios
+pub mod Tallies
+pub mod Loads

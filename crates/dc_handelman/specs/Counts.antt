@@ -1,0 +1,92 @@
+-- The number of choices: Pascal's rule, and the law by which one division gives the next number.
+use Rattle.std.specs.Prelude.{◌≡◌, ℕ, zero, suc, ◌+◌, ◌*◌, ◌≤◌, List, [], ◌∷◌, map, length, refl}
+use Rattle.std.proofs.Common.{◌∙◌, ap, ap₂, arith, length-append}
+use Rattle.dc_poly.specs.Sizes.{mul_both}
+use Rattle.dc_handelman.specs.Choices.{Choice, widened, of_size, below, choices_of}
+
+length-mapped : (f : Choice → Choice) (xs : List Choice) → length (map f xs) ≡ length xs
+length-mapped f [] = refl
+length-mapped f (x ∷ xs) = ap suc (length-mapped f xs)
+
+-- the number does not depend on where the numbers begin
+widened-same : (a b : ℕ) (f g : ℕ → List Choice) → ((k : ℕ) → length (f k) ≡ length (g k)) → (k : ℕ) → length (widened a f k) ≡ length (widened b g k)
+widened-same a b f g h zero = refl
+widened-same a b f g h (suc k) =
+    length-append (map (λ c. a ∷ c) (widened a f k)) (f (suc k))
+    ∙ ap₂ ◌+◌ (length-mapped (λ c. a ∷ c) (widened a f k) ∙ widened-same a b f g h k) (h (suc k))
+    ∙ back
+  where
+    back : length (widened b g k) + length (g (suc k)) ≡ length (widened b g (suc k))
+    back = (let x = length-append (map (λ c. b ∷ c) (widened b g k)) (g (suc k)) in let y = length-mapped (λ c. b ∷ c) (widened b g k) in omega arith)
+
+same : (n a b k : ℕ) → length (of_size n a k) ≡ length (of_size n b k)
+same zero a b zero = refl
+same zero a b (suc k) = refl
+same (suc n) a b k = widened-same a b (of_size n (suc a)) (of_size n (suc b)) (same n (suc a) (suc b)) k
+
+below_more : (n k : ℕ) → length (below n (suc k)) ≡ length (below n k) + length (of_size n 0 k)
+below_more n k = length-append (below n k) (of_size n 0 k)
+
+next_more : (n k : ℕ) → length (of_size (suc n) 0 (suc k)) ≡ length (of_size (suc n) 0 k) + length (of_size n 0 (suc k))
+next_more n k =
+    let a = length-append (map (λ c. 0 ∷ c) (of_size (suc n) 0 k)) (of_size n 1 (suc k)) in
+    let b = length-mapped (λ c. 0 ∷ c) (of_size (suc n) 0 k) in
+    let d = same n 1 0 (suc k) in
+    omega arith
+
+none_taken : (n : ℕ) → length (of_size n 0 0) ≡ 1
+none_taken zero = refl
+none_taken (suc n) = refl
+
+-- with one number more and of one size: as many as of at most that size
+level_is : (n k : ℕ) → length (of_size (suc n) 0 k) ≡ length (choices_of n k)
+level_is n zero = let a = none_taken n in let b = below_more n 0 in omega arith
+level_is n (suc k) = let a = next_more n k in let b = below_more n (suc k) in let c = level_is n k in omega arith
+
+pascal : (n k : ℕ) → length (choices_of (suc n) (suc k)) ≡ length (choices_of (suc n) k) + length (choices_of n (suc k))
+pascal n k = let a = below_more (suc n) (suc k) in let b = level_is n (suc k) in omega arith
+
+no_numbers : (k : ℕ) → length (choices_of 0 k) ≡ 1
+no_numbers zero = refl
+no_numbers (suc k) = let a = below_more 0 (suc k) in let b = no_numbers k in omega arith
+
+pub no_factors : (n : ℕ) → length (choices_of n 0) ≡ 1
+no_factors zero = refl
+no_factors (suc n) = let a = below_more (suc n) 0 in let b = level_is n 0 in let c = no_factors n in omega arith
+
+-- ---- the number for one factor more, or for one number more, by a product
+up : (n k x y w : ℕ) → suc k * y ≡ suc (n + k) * x → suc n * w ≡ suc (n + k) * x → suc k * (w + y) ≡ suc (suc n + k) * w
+up n k x y w f g = omega arith
+
+wide : (n k x y w : ℕ) → suc k * y ≡ suc (n + k) * x → suc n * w ≡ suc (n + k) * x → suc n * (w + y) ≡ suc (n + suc k) * y
+wide n k x y w f g = omega arith
+
+wider : (n : ℕ) → ((k : ℕ) → suc k * length (choices_of n (suc k)) ≡ suc (n + k) * length (choices_of n k))
+    → (k : ℕ) → suc n * length (choices_of (suc n) k) ≡ suc (n + k) * length (choices_of n k)
+wider n h zero = let a = no_factors n in let b = no_factors (suc n) in rw (a, b) (omega arith)
+wider n h (suc k) =
+    ap (λ z. suc n * z) (pascal n k)
+    ∙ wide n k (length (choices_of n k)) (length (choices_of n (suc k))) (length (choices_of (suc n) k)) (h k) (wider n h k)
+
+pub higher : (n k : ℕ) → suc k * length (choices_of n (suc k)) ≡ suc (n + k) * length (choices_of n k)
+higher zero k = let a = no_numbers k in let b = no_numbers (suc k) in rw (a, b) (omega arith)
+higher (suc n) k =
+    ap (λ z. suc k * z) (pascal n k)
+    ∙ up n k (length (choices_of n k)) (length (choices_of n (suc k))) (length (choices_of (suc n) k)) (higher n k) (wider n (higher n) k)
+
+-- ---- a bound for the numbers that are asked for
+next_small : (n k x y : ℕ) → n ≤ 2048 → k ≤ 2 → suc k * y ≡ suc (n + k) * x → y ≤ 2051 * x
+next_small n k x y a b h = let f = mul_both (suc (n + k)) 2051 x x (omega arith) (omega arith) in let g = mul_both 1 (suc k) y y (omega arith) (omega arith) in omega arith
+
+pub count_small : (n k : ℕ) → n ≤ 2048 → k ≤ 3 → length (choices_of n k) ≤ 2051 * (2051 * 2051)
+count_small n zero a b = let c = no_factors n in omega arith
+count_small n (suc zero) a b = let c = no_factors n in let d = next_small n 0 _ _ a (omega arith) (higher n 0) in omega arith
+count_small n (suc (suc zero)) a b =
+    let c = no_factors n in let d = next_small n 0 _ _ a (omega arith) (higher n 0) in let e = next_small n 1 _ _ a (omega arith) (higher n 1) in omega arith
+count_small n (suc (suc (suc zero))) a b =
+    let c = no_factors n in
+    let d = next_small n 0 _ _ a (omega arith) (higher n 0) in
+    let e = next_small n 1 _ _ a (omega arith) (higher n 1) in
+    let f = next_small n 2 _ _ a (omega arith) (higher n 2) in
+    omega arith
+count_small n (suc (suc (suc (suc k)))) a b = absurd (omega arith)

@@ -1,0 +1,17 @@
+//! Laws of products. Each function has no code: what it ensures is the law.
+ghost use Rattle.dc_handelman.specs.Choices.{AreFixed, IsTheList};
+ghost use Rattle.dc_handelman.specs.Products.{HaveValues, StayAboveZero};
+
+/// One list alone has each choice of at most so many numbers and nothing else, in order, and it is the
+/// list whose products `products` makes.
+pub fn the_choices_are_fixed()
+    ensures fixed { AreFixed }
+    ensures list { IsTheList }
+{}
+
+/// The value of a product at a point is the product of the values of its factors, so it is at least 0
+/// where they are.
+pub fn products_have_values()
+    ensures values { HaveValues }
+    ensures nonnegative { StayAboveZero }
+{}

@@ -1,0 +1,8 @@
+pub mod Firsts
+pub mod Dues
+pub mod Reach
+pub mod OneAnswer
+pub mod Steps
+pub mod Readings
+pub mod Shown
+pub mod Solved

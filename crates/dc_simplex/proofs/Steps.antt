@@ -1,0 +1,103 @@
+-- One more pivot of a run on a tableau.
+use Rattle.std.proofs.Common.{◌≡◌, ℕ, ◌+◌, ◌≤◌, ◌≢◌, true, false, length, Result, Ok, Err, refl, sym, ◌∙◌, ap, arith, inl, inr}
+use Rattle.std.proofs.lemmas.Bool.{cases_Bool}
+use Rattle.std.proofs.lemmas.List.FromFn.{length-map-range_with_len}
+use Rattle.std.proofs.Math.ListN.{length-set}
+use Rattle.dc_math.specs.Rational.{ℚ}
+use Rattle.dc_math.specs.RationalField.{rationals}
+use Rattle.dc_lp.specs.declared.Problem.{Problem}
+use Rattle.dc_lp.specs.declared.tableau.PastQuotient.{PastQuotient}
+use Rattle.dc_lp.specs.Linear.{Linear}
+use Rattle.dc_lp.specs.Problems.{linear_of}
+use Rattle.dc_lp.specs.Tables as tables
+use Rattle.dc_lp.specs.Tables.{Table}
+use Rattle.dc_lp.specs.Meanings.{Meaning, resting, start, pivoted, pivot_fits, IsPivotPlace, IsUsable}
+use Rattle.dc_pivots.specs.Runs as runs
+use Rattle.dc_pivots.specs.Runs.{State, Pivot, End, due_at, run, IsPivot}
+use Rattle.dc_pivots.proofs.Places.{pivots_have_places}
+use Rattle.dc_simplex.specs.declared.next.Phase.{Phase}
+use Rattle.dc_simplex.specs.declared.next.Phase.TheVariants.{One}
+use Rattle.dc_simplex.specs.Limits.{test_fits, due_in, IsReached}
+use Rattle.dc_simplex.specs.Steps.{phase_of, told}
+use Rattle.dc_simplex.proofs.Reach.{reached-begun, reached-more}
+
+-- ---- sizes
+
+pub start-basis : (p : Linear ℚ) → length (tables.start ℚ rationals p).basis ≡ p.equations
+unfolding tables.start
+start-basis p = simp length-map-range_with_len
+
+pub start-real : (p : Linear ℚ) → (tables.start ℚ rationals p).real ≡ p.columns
+unfolding tables.start
+start-real p = refl
+
+pub pivoted-real : (t : Table ℚ) (r j : ℕ) → (pivoted t r j).real ≡ t.real
+unfolding tables.pivoted
+pivoted-real t r j = refl
+
+pub pivoted-basis : (t : Table ℚ) (r j : ℕ) → length (pivoted t r j).basis ≡ length t.basis
+unfolding tables.pivoted
+pivoted-basis t r j = simp length-set
+
+-- ---- what was told
+
+abbrev said : runs.Due → Result runs.Due PastQuotient
+said d = Ok d
+
+abbrev refused : PastQuotient → Result runs.Due PastQuotient
+refused x = Err x
+
+abbrev refused_so : Result runs.Due PastQuotient
+refused_so = Err (record {})
+
+told-ok : (t : Table ℚ) (d e : runs.Due) → said e ≡ told t d → (d ≡ e) × (test_fits t d ≡ true)
+told-ok t d e h =
+    elim (cases_Bool (test_fits t d)) [
+      | inl b ↦ (let f : said e ≡ said d = rw b at h in ((cc), b))
+      | inr b ↦ (let f : said e ≡ refused_so = rw b at h in absurd (cc))
+    ]
+
+told-err : (t : Table ℚ) (d : runs.Due) (x : PastQuotient) → refused x ≡ told t d → test_fits t d ≡ false
+told-err t d x h =
+    elim (cases_Bool (test_fits t d)) [
+      | inl b ↦ (let f : refused x ≡ said d = rw b at h in absurd (cc))
+      | inr b ↦ b
+    ]
+
+-- the tableau is where the run is after these pivots
+pub record IsHere (p : Linear ℚ) (budget m n pivots : ℕ) (phase : Phase) (x : Meaning) : Type 0 where
+  pub rest : x ≡ resting x.table
+  pub reaches : IsReached p pivots (record { phase = phase_of phase; table = x.table })
+  pub within : pivots ≤ budget
+  pub rows : m ≡ length x.table.basis
+  pub columns : n ≡ x.table.real
+
+pub here-begun : (p : Problem) (budget m n : ℕ) (x : Meaning) → x ≡ resting (start p) → m ≡ p.rows → n ≡ length p.columns.items → IsHere (linear_of p) budget m n 0 One x
+here-begun p budget m n x e f h = rw e (record {
+  rest = refl;
+  reaches = reached-begun (linear_of p);
+  within = omega arith;
+  rows = f ∙ sym (start-basis (linear_of p));
+  columns = h ∙ sym (start-real (linear_of p));
+})
+
+module _ (p : Linear ℚ) (budget m n k : ℕ) (phase : Phase) (x : Meaning) (h : IsHere p budget m n k phase x) where
+  pub here-usable : IsUsable x
+  here-usable = record { loaded = ap (λ (y : Meaning). y.loaded) h.rest; whole = ap (λ (y : Meaning). y.broken) h.rest }
+
+  pub here-place : (q : runs.Phase) (r j : ℕ) → said (Pivot q r j) ≡ told x.table (due_in (phase_of phase) x.table) → IsPivotPlace x.table r j
+  here-place q r j e = pivots_have_places p k (record { phase = phase_of phase; table = x.table }) q r j h.reaches.reached (told-ok x.table (due_in (phase_of phase) x.table) (Pivot q r j) e).0
+
+  pub here-more : (q : Phase) (y : Meaning) (r j : ℕ) → said (Pivot (phase_of q) r j) ≡ told x.table (due_in (phase_of phase) x.table)
+      → pivot_fits x.table r j ≡ true → y ≡ resting (pivoted x.table r j) → k ≢ budget → IsHere p budget m n (k + 1) q y
+  here-more q y r j e f g ne =
+      let d = told-ok x.table (due_in (phase_of phase) x.table) (Pivot (phase_of q) r j) e in
+      rw g (record {
+        rest = refl;
+        reaches = reached-more p k (phase_of phase) x.table (phase_of q) r j h.reaches d.0 d.1 f;
+        within = (let w : k ≤ budget = h.within in omega arith);
+        rows = h.rows ∙ sym (pivoted-basis x.table r j);
+        columns = h.columns ∙ sym (pivoted-real x.table r j);
+      })
+
+pub ruleset steps = (here-usable)
