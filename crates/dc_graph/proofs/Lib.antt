@@ -1,0 +1,5 @@
+pub mod Lists
+pub mod Parts
+pub mod Forward
+pub mod Back
+pub mod Inside

@@ -1,0 +1,5 @@
+pub mod Members
+pub mod Labels
+pub mod Pieces
+pub mod Walks
+pub mod Laws

@@ -1,0 +1,4 @@
+//! The labelled graph of a list of statements, whose walks are the runs. The definitions are in specs/.
+#![tactic(auto)]
+
+pub mod laws;

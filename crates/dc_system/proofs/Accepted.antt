@@ -1,0 +1,208 @@
+-- What the proofs of this crate use of a program.
+use Rattle.std.proofs.Common.{◌≡◌, ℕ, ◌+◌, ◌<◌, ◌≤◌, Bool, true, false, ◌&&◌, leb, List, [], ◌∷◌, ◌++◌, map, length, refl, sym, ap, subst, ◌∙◌, arith}
+use Rattle.std.specs.List.{AllByRecursion}
+use Rattle.std.proofs.lemmas.Bool.Decides.{nat_tests}
+use Rattle.dc_syntax.specs.declared.tree.Expr.{Expr, Expr-F, roll-Expr, fold-Expr, fold-roll-Expr}
+use Rattle.dc_syntax.specs.declared.tree.Expr.TheOpen as F
+use Rattle.dc_syntax.specs.declared.tree.Cond.{Cond, Cond-F, roll-Cond, fold-Cond, fold-roll-Cond}
+use Rattle.dc_syntax.specs.declared.tree.Cond.TheOpen as G
+use Rattle.dc_syntax.specs.declared.tree.Stmt.{Stmt, Stmt-F, roll-Stmt, fold-Stmt, fold-roll-Stmt}
+use Rattle.dc_syntax.specs.declared.tree.Stmt.TheOpen as H
+use Rattle.dc_syntax.specs.declared.tree.Proc.{Proc}
+use Rattle.dc_syntax.specs.Trees.{EachExpr, EachCond, AllStmts, EachStmt}
+use Rattle.dc_syntax.proofs.Inductions.{Expr-induction, Cond-induction, Stmt-induction}
+use Rattle.dc_affine.specs.Whole as whole
+use Rattle.dc_affine.specs.Whole.{FormsPass}
+use Rattle.dc_program.specs.Limits.{literals_step, literals_fit, cond_literals_step, cond_literals_fit, operators_step, operators, cond_operators_step, cond_operators, is_limited, cond_is_limited, statement_limited, limits_step, stmt_is_limited, all_limited}
+use Rattle.dc_program.specs.Programs.{IsProgram}
+use Rattle.dc_system.specs.Literals.{expr_numbers_step, expr_numbers, cond_numbers_step, cond_numbers, joined, stmt_numbers_step, stmt_numbers, numbers_of}
+use Rattle.dc_system.proofs.Operators.{expr_operators_step, expr_operators, cond_operators_step as own_cond_step, cond_operators as own_cond_operators, stmt_operators_step, stmt_operators, operators_of}
+
+pub record IsAccepted (p : Proc) : Type 0 where
+  pub few_names : length p.names ≤ 10
+  pub params_first : p.params ≤ length p.names
+  pub small_literals : AllByRecursion (λ k. k ≤ 2147483647) (numbers_of p.body)
+  pub few_operators : AllByRecursion (λ k. k ≤ 64) (operators_of p.body)
+  pub passes : FormsPass p
+
+abbrev Small : List ℕ → Type 0
+Small ks = AllByRecursion (λ k. k ≤ 2147483647) ks
+
+abbrev Few : List ℕ → Type 0
+Few ks = AllByRecursion (λ k. k ≤ 64) ks
+
+both_small : (xs ys : List ℕ) → Small xs → Small ys → Small (xs ++ ys)
+both_small [] ys h g = g
+both_small (x ∷ xs) ys h g = (h.0, both_small xs ys h.1 g)
+
+both_few : (xs ys : List ℕ) → Few xs → Few ys → Few (xs ++ ys)
+both_few [] ys h g = g
+both_few (x ∷ xs) ys h g = (h.0, both_few xs ys h.1 g)
+
+and_left : (a b : Bool) → (a && b) ≡ true → a ≡ true
+and_left true b h = refl
+and_left false b h = absurd cc
+
+and_right : (a b : Bool) → (a && b) ≡ true → b ≡ true
+and_right true b h = h
+and_right false b h = absurd cc
+
+small_leb : (n : ℕ) → leb n 2147483647 ≡ true → n ≤ 2147483647
+small_leb n h = grind (arith, nat_tests)
+
+few_leb : (n : ℕ) → leb n 64 ≡ true → n ≤ 64
+few_leb n h = grind (arith, nat_tests)
+
+subst_small : {xs ys : List ℕ} → xs ≡ ys → Small ys → Small xs
+subst_small e h = subst Small (sym e) h
+
+subst_few : {xs ys : List ℕ} → xs ≡ ys → Few ys → Few xs
+subst_few e h = subst Few (sym e) h
+
+counted : (a b c d : ℕ) → a ≡ c → b ≡ d → 1 + (a + b) ≡ c + (1 + d)
+counted a b c d h g = omega arith
+
+-- ---- expressions
+
+abbrev ExprOf : Expr → Type 0
+ExprOf e = (literals_fit e ≡ true → Small (expr_numbers e)) × (expr_operators e ≡ operators e)
+
+expr_layer : (L : Expr-F Expr) → EachExpr ExprOf L → ExprOf (roll-Expr L)
+unfolding roll-Expr denote.Hole.Carrier.roll
+expr_layer (F.Num n) h = (
+  λ l. subst_small (fold-roll-Expr (List ℕ) expr_numbers_step (F.Num n)) (small_leb n (sym (fold-roll-Expr Bool literals_step (F.Num n)) ∙ l), tt),
+  fold-roll-Expr ℕ expr_operators_step (F.Num n) ∙ sym (fold-roll-Expr ℕ operators_step (F.Num n)),
+)
+expr_layer (F.Var i) h = (λ l. subst_small (fold-roll-Expr (List ℕ) expr_numbers_step (F.Var i)) tt, fold-roll-Expr ℕ expr_operators_step (F.Var i) ∙ sym (fold-roll-Expr ℕ operators_step (F.Var i)))
+expr_layer (F.Neg a) h = (
+  λ l. subst_small (fold-roll-Expr (List ℕ) expr_numbers_step (F.Neg a)) (h.0 (sym (fold-roll-Expr Bool literals_step (F.Neg a)) ∙ l)),
+  fold-roll-Expr ℕ expr_operators_step (F.Neg a) ∙ (ap (λ n. 1 + n) h.1 ∙ sym (fold-roll-Expr ℕ operators_step (F.Neg a))),
+)
+expr_layer (F.Add a b) h = (
+  λ l. let z : (literals_fit a && literals_fit b) ≡ true = sym (fold-roll-Expr Bool literals_step (F.Add a b)) ∙ l in
+      subst_small (fold-roll-Expr (List ℕ) expr_numbers_step (F.Add a b)) (both_small (expr_numbers a) (expr_numbers b) (h.0.0 (and_left _ _ z)) (h.1.0 (and_right _ _ z))),
+  fold-roll-Expr ℕ expr_operators_step (F.Add a b) ∙ (counted (expr_operators a) (expr_operators b) (operators a) (operators b) h.0.1 h.1.1 ∙ sym (fold-roll-Expr ℕ operators_step (F.Add a b))),
+)
+expr_layer (F.Sub a b) h = (
+  λ l. let z : (literals_fit a && literals_fit b) ≡ true = sym (fold-roll-Expr Bool literals_step (F.Sub a b)) ∙ l in
+      subst_small (fold-roll-Expr (List ℕ) expr_numbers_step (F.Sub a b)) (both_small (expr_numbers a) (expr_numbers b) (h.0.0 (and_left _ _ z)) (h.1.0 (and_right _ _ z))),
+  fold-roll-Expr ℕ expr_operators_step (F.Sub a b) ∙ (counted (expr_operators a) (expr_operators b) (operators a) (operators b) h.0.1 h.1.1 ∙ sym (fold-roll-Expr ℕ operators_step (F.Sub a b))),
+)
+expr_layer (F.Mul a b) h = (
+  λ l. let z : (literals_fit a && literals_fit b) ≡ true = sym (fold-roll-Expr Bool literals_step (F.Mul a b)) ∙ l in
+      subst_small (fold-roll-Expr (List ℕ) expr_numbers_step (F.Mul a b)) (both_small (expr_numbers a) (expr_numbers b) (h.0.0 (and_left _ _ z)) (h.1.0 (and_right _ _ z))),
+  fold-roll-Expr ℕ expr_operators_step (F.Mul a b) ∙ (counted (expr_operators a) (expr_operators b) (operators a) (operators b) h.0.1 h.1.1 ∙ sym (fold-roll-Expr ℕ operators_step (F.Mul a b))),
+)
+
+expr_of : (e : Expr) → ExprOf e
+expr_of e = Expr-induction ExprOf expr_layer e
+
+small_expr : (e : Expr) → is_limited e ≡ true → Small (expr_numbers e)
+small_expr e l = (expr_of e).0 (and_left _ _ l)
+
+few_expr : (e : Expr) → is_limited e ≡ true → expr_operators e ≤ 64
+few_expr e l = let g = (expr_of e).1 in let h = few_leb (operators e) (and_right (literals_fit e) _ l) in omega arith
+
+-- ---- conditions
+
+abbrev CondOf : Cond → Type 0
+CondOf c = (cond_literals_fit c ≡ true → Small (cond_numbers c)) × (own_cond_operators c ≡ cond_operators c)
+
+cond_layer : (L : Cond-F Cond) → EachCond CondOf L → CondOf (roll-Cond L)
+unfolding roll-Cond denote.Hole.Carrier.roll
+cond_layer G.True h = (λ l. subst_small (fold-roll-Cond (List ℕ) cond_numbers_step G.True) tt, fold-roll-Cond ℕ own_cond_step G.True ∙ sym (fold-roll-Cond ℕ cond_operators_step G.True))
+cond_layer G.False h = (λ l. subst_small (fold-roll-Cond (List ℕ) cond_numbers_step G.False) tt, fold-roll-Cond ℕ own_cond_step G.False ∙ sym (fold-roll-Cond ℕ cond_operators_step G.False))
+cond_layer (G.Cmp a r b) h = (
+  λ l. let z : (literals_fit a && literals_fit b) ≡ true = sym (fold-roll-Cond Bool cond_literals_step (G.Cmp a r b)) ∙ l in
+      subst_small (fold-roll-Cond (List ℕ) cond_numbers_step (G.Cmp a r b)) (both_small (expr_numbers a) (expr_numbers b) ((expr_of a).0 (and_left _ _ z)) ((expr_of b).0 (and_right _ _ z))),
+  fold-roll-Cond ℕ own_cond_step (G.Cmp a r b) ∙ ((λ j. (expr_of a).1 j + (expr_of b).1 j) ∙ sym (fold-roll-Cond ℕ cond_operators_step (G.Cmp a r b))),
+)
+cond_layer (G.Not a) h = (
+  λ l. subst_small (fold-roll-Cond (List ℕ) cond_numbers_step (G.Not a)) (h.0 (sym (fold-roll-Cond Bool cond_literals_step (G.Not a)) ∙ l)),
+  fold-roll-Cond ℕ own_cond_step (G.Not a) ∙ (ap (λ n. 1 + n) h.1 ∙ sym (fold-roll-Cond ℕ cond_operators_step (G.Not a))),
+)
+cond_layer (G.And a b) h = (
+  λ l. let z : (cond_literals_fit a && cond_literals_fit b) ≡ true = sym (fold-roll-Cond Bool cond_literals_step (G.And a b)) ∙ l in
+      subst_small (fold-roll-Cond (List ℕ) cond_numbers_step (G.And a b)) (both_small (cond_numbers a) (cond_numbers b) (h.0.0 (and_left _ _ z)) (h.1.0 (and_right _ _ z))),
+  fold-roll-Cond ℕ own_cond_step (G.And a b) ∙ (counted (own_cond_operators a) (own_cond_operators b) (cond_operators a) (cond_operators b) h.0.1 h.1.1 ∙ sym (fold-roll-Cond ℕ cond_operators_step (G.And a b))),
+)
+cond_layer (G.Or a b) h = (
+  λ l. let z : (cond_literals_fit a && cond_literals_fit b) ≡ true = sym (fold-roll-Cond Bool cond_literals_step (G.Or a b)) ∙ l in
+      subst_small (fold-roll-Cond (List ℕ) cond_numbers_step (G.Or a b)) (both_small (cond_numbers a) (cond_numbers b) (h.0.0 (and_left _ _ z)) (h.1.0 (and_right _ _ z))),
+  fold-roll-Cond ℕ own_cond_step (G.Or a b) ∙ (counted (own_cond_operators a) (own_cond_operators b) (cond_operators a) (cond_operators b) h.0.1 h.1.1 ∙ sym (fold-roll-Cond ℕ cond_operators_step (G.Or a b))),
+)
+
+cond_of : (c : Cond) → CondOf c
+cond_of c = Cond-induction CondOf cond_layer c
+
+small_cond : (c : Cond) → cond_is_limited c ≡ true → Small (cond_numbers c)
+small_cond c l = (cond_of c).0 (and_left _ _ l)
+
+few_cond : (c : Cond) → cond_is_limited c ≡ true → own_cond_operators c ≤ 64
+few_cond c l = let g = (cond_of c).1 in let h = few_leb (cond_operators c) (and_right (cond_literals_fit c) _ l) in omega arith
+
+-- ---- statements
+
+abbrev StmtOf : Stmt → Type 0
+StmtOf S = stmt_is_limited S ≡ true → Small (stmt_numbers S) × Few (stmt_operators S)
+
+inside : (L : Stmt-F Bool) → limits_step L ≡ true → whole.inner L ≡ true
+inside L h = and_right (statement_limited L) (whole.inner L) h
+
+own : (L : Stmt-F Bool) → limits_step L ≡ true → statement_limited L ≡ true
+own L h = and_left (statement_limited L) (whole.inner L) h
+
+all_of : (A : List Stmt) → AllStmts StmtOf A → whole.each (map stmt_is_limited A) ≡ true → Small (joined (map stmt_numbers A)) × Few (joined (map stmt_operators A))
+all_of [] h l = (tt, tt)
+all_of (S ∷ A) h l =
+    let f = h.0 (and_left _ _ l) in
+    let g = all_of A h.1 (and_right _ _ l) in
+    (both_small (stmt_numbers S) _ f.0 g.0, both_few (stmt_operators S) _ f.1 g.1)
+
+made : (S : Stmt) {xs ys : List ℕ} → stmt_numbers S ≡ xs → stmt_operators S ≡ ys → Small xs → Few ys → Small (stmt_numbers S) × Few (stmt_operators S)
+made S e f h g = (subst_small e h, subst_few f g)
+
+stmt_layer : (L : Stmt-F Stmt) → EachStmt StmtOf L → StmtOf (roll-Stmt L)
+unfolding roll-Stmt denote.Hole.Carrier.roll
+stmt_layer H.Skip h l = made (roll-Stmt H.Skip) (fold-roll-Stmt (List ℕ) stmt_numbers_step H.Skip) (fold-roll-Stmt (List ℕ) stmt_operators_step H.Skip) tt tt
+stmt_layer (H.AnyOf i) h l = made (roll-Stmt (H.AnyOf i)) (fold-roll-Stmt (List ℕ) stmt_numbers_step (H.AnyOf i)) (fold-roll-Stmt (List ℕ) stmt_operators_step (H.AnyOf i)) tt tt
+stmt_layer (H.Assign i e) h l =
+    let z = (own (H.Assign i e) (sym (fold-roll-Stmt Bool limits_step (H.Assign i e)) ∙ l)) in
+    made (roll-Stmt (H.Assign i e)) (fold-roll-Stmt (List ℕ) stmt_numbers_step (H.Assign i e)) (fold-roll-Stmt (List ℕ) stmt_operators_step (H.Assign i e)) (small_expr e z) (few_expr e z, tt)
+stmt_layer (H.Tick e) h l =
+    let z = (own (H.Tick e) (sym (fold-roll-Stmt Bool limits_step (H.Tick e)) ∙ l)) in
+    made (roll-Stmt (H.Tick e)) (fold-roll-Stmt (List ℕ) stmt_numbers_step (H.Tick e)) (fold-roll-Stmt (List ℕ) stmt_operators_step (H.Tick e)) (small_expr e z) (few_expr e z, tt)
+stmt_layer (H.Assume c) h l =
+    let z = (own (H.Assume c) (sym (fold-roll-Stmt Bool limits_step (H.Assume c)) ∙ l)) in
+    made (roll-Stmt (H.Assume c)) (fold-roll-Stmt (List ℕ) stmt_numbers_step (H.Assume c)) (fold-roll-Stmt (List ℕ) stmt_operators_step (H.Assume c)) (small_cond c z) (few_cond c z, tt)
+stmt_layer (H.Between i a b) h l =
+    let z = (own (H.Between i a b) (sym (fold-roll-Stmt Bool limits_step (H.Between i a b)) ∙ l)) in
+    made (roll-Stmt (H.Between i a b)) (fold-roll-Stmt (List ℕ) stmt_numbers_step (H.Between i a b)) (fold-roll-Stmt (List ℕ) stmt_operators_step (H.Between i a b)) (both_small (expr_numbers a) (expr_numbers b) (small_expr a (and_left _ _ z)) (small_expr b (and_right _ _ z))) (few_expr a (and_left _ _ z), (few_expr b (and_right _ _ z), tt))
+stmt_layer (H.If c A B) h l =
+    let z = (own (H.If c (map stmt_is_limited A) (map stmt_is_limited B)) (sym (fold-roll-Stmt Bool limits_step (H.If c A B)) ∙ l)) in
+    let i = (inside (H.If c (map stmt_is_limited A) (map stmt_is_limited B)) (sym (fold-roll-Stmt Bool limits_step (H.If c A B)) ∙ l)) in
+    let f = all_of A h.0 (and_left _ _ i) in
+    let g = all_of B h.1 (and_right _ _ i) in
+    made (roll-Stmt (H.If c A B)) (fold-roll-Stmt (List ℕ) stmt_numbers_step (H.If c A B)) (fold-roll-Stmt (List ℕ) stmt_operators_step (H.If c A B)) (both_small (cond_numbers c) _ (small_cond c z) (both_small _ _ f.0 g.0)) (few_cond c z, both_few _ _ f.1 g.1)
+stmt_layer (H.IfAny A B) h l =
+    let i = (inside (H.IfAny (map stmt_is_limited A) (map stmt_is_limited B)) (sym (fold-roll-Stmt Bool limits_step (H.IfAny A B)) ∙ l)) in
+    let f = all_of A h.0 (and_left _ _ i) in
+    let g = all_of B h.1 (and_right _ _ i) in
+    made (roll-Stmt (H.IfAny A B)) (fold-roll-Stmt (List ℕ) stmt_numbers_step (H.IfAny A B)) (fold-roll-Stmt (List ℕ) stmt_operators_step (H.IfAny A B)) (both_small _ _ f.0 g.0) (both_few _ _ f.1 g.1)
+stmt_layer (H.While c A) h l =
+    let z = (own (H.While c (map stmt_is_limited A)) (sym (fold-roll-Stmt Bool limits_step (H.While c A)) ∙ l)) in
+    let f = all_of A h (inside (H.While c (map stmt_is_limited A)) (sym (fold-roll-Stmt Bool limits_step (H.While c A)) ∙ l)) in
+    made (roll-Stmt (H.While c A)) (fold-roll-Stmt (List ℕ) stmt_numbers_step (H.While c A)) (fold-roll-Stmt (List ℕ) stmt_operators_step (H.While c A)) (both_small (cond_numbers c) _ (small_cond c z) f.0) (few_cond c z, f.1)
+stmt_layer (H.WhileAny A) h l =
+    let f = all_of A h (inside (H.WhileAny (map stmt_is_limited A)) (sym (fold-roll-Stmt Bool limits_step (H.WhileAny A)) ∙ l)) in
+    made (roll-Stmt (H.WhileAny A)) (fold-roll-Stmt (List ℕ) stmt_numbers_step (H.WhileAny A)) (fold-roll-Stmt (List ℕ) stmt_operators_step (H.WhileAny A)) f.0 f.1
+
+whole_of : (A : List Stmt) → all_limited A ≡ true → Small (numbers_of A) × Few (operators_of A)
+whole_of [] l = (tt, tt)
+whole_of (S ∷ A) l =
+    let f = Stmt-induction StmtOf stmt_layer S (and_left _ _ l) in
+    let g = whole_of A (and_right _ _ l) in
+    (both_small (stmt_numbers S) _ f.0 g.0, both_few (stmt_operators S) _ f.1 g.1)
+
+pub accepted : (p : Proc) → IsProgram p → IsAccepted p
+accepted p h = let w = whole_of p.body h.limited in record { few_names = h.few; params_first = h.params; small_literals = w.0; few_operators = w.1; passes = h.forms }

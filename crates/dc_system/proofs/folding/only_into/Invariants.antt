@@ -1,0 +1,7 @@
+use Rattle.std.proofs.Common.{eqb}
+use Rattle.dc_system.specs.declared.edges.Edge.{Edge}
+use Rattle.dc_system.proofs.Onlies.{Found}
+use Rattle.dc_system.proofs.folding.only_into.Given as goal
+
+abbrev pub invariant-loop-k : goal.invariant-loop-k
+invariant-loop-k l = Found (λ (e : Edge). eqb e.to l.location) l.edges l.k l.found

@@ -1,0 +1,55 @@
+-- The laws of systems, each as the contract of a function of `laws` states it.
+use Rattle.std.specs.Prelude.{◌≡◌, ◌↔◌, ℕ, ◌-◌, ◌<◌, ◌≤◌, List, [], ◌∷◌, length, ℤ, Some, None}
+use Rattle.std.specs.List.{AllByRecursion}
+use Rattle.dc_syntax.specs.declared.tree.Proc.{Proc}
+use Rattle.dc_syntax.specs.declared.tree.Stmt.{Stmt}
+use Rattle.dc_syntax.specs.Value.{State}
+use Rattle.dc_syntax.specs.Run.{Run}
+use Rattle.dc_syntax.specs.Table.{Then}
+use Rattle.dc_graph.specs.Members.{Among}
+use Rattle.dc_system.specs.declared.edges.Edge.{Edge}
+use Rattle.dc_system.specs.declared.edges.System.{System}
+use Rattle.dc_system.specs.Composed.{compose_of, Crosses}
+use Rattle.dc_system.specs.Folded.{IsFolded}
+use Rattle.dc_system.specs.Literals.{numbers_of, literals_of}
+use Rattle.dc_program.specs.Programs.{IsProgram}
+use Rattle.dc_system.specs.Systems.{system_of, size_fault}
+use Rattle.dc_system.specs.Shapes.{IsEdge, IsWellFormed}
+use Rattle.dc_system.specs.Paths.{Path}
+
+-- from the entry of a system in state s, at cost c, to its exit in state t
+abbrev pub Through : System → State → ℤ → State → Type 0
+Through y s c t = Path y.edges 0 s c (y.locs - 1) t
+
+abbrev pub PathsAreRuns : Type 0
+PathsAreRuns = (p : Proc) → IsProgram p → (s : State) (c : ℤ) (t : State) → length s ≡ length p.names → Through (system_of p) s c t ↔ Run p.body s c t
+
+abbrev pub AreWellFormed : Type 0
+AreWellFormed = (p : Proc) → IsProgram p → size_fault p ≡ None → IsWellFormed (system_of p)
+
+-- each smaller than all later ones
+abbrev pub Rising : List ℕ → Type 0
+Rising [] = Unit {0}
+Rising (x ∷ xs) = AllByRecursion (λ y. x < y) xs × Rising xs
+
+abbrev pub LiteralsAreNumbers : Type 0
+LiteralsAreNumbers = (A : List Stmt) → Rising (literals_of A) × ((k : ℕ) → Among k (literals_of A) ↔ Among k (numbers_of A))
+
+-- along the composed edge one gets exactly where one gets along the first edge and then the second
+abbrev pub ComposedCrosses : Type 0
+ComposedCrosses = (n : ℕ) (e f g : Edge) → IsEdge n e → IsEdge n f → compose_of n e f ≡ Some g → (s : State) (c : ℤ) (t : State) → length s ≡ n → Crosses g s c t ↔ Then (Crosses e) (Crosses f) s c t
+
+-- and it is an edge of a well formed system
+abbrev pub ComposedIsEdge : Type 0
+ComposedIsEdge = (n : ℕ) (e f g : Edge) → n ≤ 10 → IsEdge n e → IsEdge n f → compose_of n e f ≡ Some g → IsEdge n g
+
+-- a folded system has the same paths from its entry to its exit, and is well formed
+abbrev pub FoldedPaths : Type 0
+FoldedPaths = (y f : System) → IsWellFormed y → IsFolded y f → (s : State) (c : ℤ) (t : State) → length s ≡ y.vars → Through f s c t ↔ Through y s c t
+
+abbrev pub FoldedIsWellFormed : Type 0
+FoldedIsWellFormed = (y f : System) → IsWellFormed y → IsFolded y f → IsWellFormed f
+
+-- so the paths of a procedure's folded system are its runs
+abbrev pub FoldedPathsAreRuns : Type 0
+FoldedPathsAreRuns = (p : Proc) (f : System) → IsProgram p → size_fault p ≡ None → IsFolded (system_of p) f → (s : State) (c : ℤ) (t : State) → length s ≡ length p.names → Through f s c t ↔ Run p.body s c t

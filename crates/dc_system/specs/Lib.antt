@@ -1,0 +1,12 @@
+pub mod Edges
+pub mod Guards
+pub mod Simple
+pub mod Literals
+pub mod Systems
+pub mod Shapes
+pub mod Paths
+pub mod Composed
+pub mod Folded
+pub mod Small
+pub mod Spots
+pub mod Laws

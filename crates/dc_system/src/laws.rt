@@ -1,0 +1,32 @@
+//! Laws of systems. Each function has no code: what it ensures is the law.
+ghost use Rattle.dc_system.specs.Laws.{AreWellFormed, ComposedCrosses, ComposedIsEdge, FoldedIsWellFormed, FoldedPaths, FoldedPathsAreRuns, LiteralsAreNumbers, PathsAreRuns};
+
+/// From each state, the paths through a procedure's system from location 0 to the exit are exactly the finished runs of its body, at the
+/// same costs and to the same states.
+pub fn paths_are_runs()
+    ensures { PathsAreRuns }
+{}
+
+/// The system of an accepted procedure within the limits is well formed.
+pub fn systems_are_well_formed()
+    ensures { AreWellFormed }
+{}
+
+/// The literals of a system rise, and are those of the procedure.
+pub fn literals_are_the_numbers()
+    ensures { LiteralsAreNumbers }
+{}
+
+/// Along a composed edge one gets, at the same cost, exactly where one gets along the first edge and then the second.
+pub fn composed_edges_cross_both()
+    ensures crosses { ComposedCrosses }
+    ensures edge { ComposedIsEdge }
+{}
+
+/// A folded system is well formed, and has exactly the paths of the system from its entry to its exit. So those of a procedure's folded
+/// system are the procedure's finished runs.
+pub fn folded_systems_have_the_paths()
+    ensures well_formed { FoldedIsWellFormed }
+    ensures paths { FoldedPaths }
+    ensures runs { FoldedPathsAreRuns }
+{}

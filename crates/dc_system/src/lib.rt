@@ -1,0 +1,19 @@
+//! Transition systems: a procedure as numbered locations with edges between them, whose paths are the runs.
+#![tactic(auto)]
+
+mod atoms;
+mod composition;
+mod count;
+mod edges;
+mod folding;
+mod forms;
+mod guards;
+pub mod laws;
+mod literals;
+mod place;
+mod procedure;
+
+pub use composition::compose;
+pub use edges::{Edge, System, SystemFault};
+pub use folding::fold;
+pub use procedure::build;
