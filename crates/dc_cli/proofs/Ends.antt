@@ -6,14 +6,23 @@ use Rattle.std.specs.String.{string_bytes}
 use Rattle.dc_host.specs.Outside.{Files, Rose, IsTextOf, IsAbsent}
 use Rattle.dc_syntax.specs.declared.tree.Side.{Side}
 use Rattle.dc_syntax.specs.declared.tree.Side.TheVariants.{New, Old}
-use Rattle.dc_parse.specs.Plain.{IsPlain, IsFault}
-use Rattle.dc_parse.specs.declared.parse.ParseFault.{ParseFault}
-use Rattle.dc_parse.specs.declared.parse.Kind.{Kind}
-use Rattle.dc_parse.specs.declared.parse.Kind.TheVariants as k
+use Rattle.dc_syntax.specs.declared.tree.Proc.{Proc}
+use Rattle.dc_syntax.specs.Plain.{IsPlain}
+use Rattle.dc_grammar.specs.Language.{source}
+use Rattle.dc_descent.specs.declared.fault.Fault.{Fault}
+use Rattle.dc_descent.specs.declared.fault.Kind.{Kind}
+use Rattle.dc_descent.specs.declared.fault.Kind.TheVariants as k
+use Rattle.dc_parse.specs.Outcomes.{Outcome, says, refuses}
+use Rattle.dc_parse.specs.Judges.{judge_source}
+use Rattle.dc_parse.specs.Answers.{SourceOutcome}
+use Rattle.dc_parse.specs.Answers.{IsRefusal as IsTold}
+use Rattle.dc_parse.proofs.Judged.{one_outcome}
+use Rattle.dc_cli.specs.declared.refusal.Wrong.{Wrong}
+use Rattle.dc_cli.specs.declared.refusal.Wrong.TheVariants.{Parse, ParametersDiffer, NotPlain}
 use Rattle.dc_cli.specs.declared.refusal.Refusal.{Refusal}
 use Rattle.dc_cli.specs.declared.refusal.Refusal.TheVariants.{Usage, Unread, Source, Unwritten, NoMemory}
 use Rattle.dc_cli.specs.Words.{names_in}
-use Rattle.dc_cli.specs.Answer.{text_limit, IsAnswer, Succeeds}
+use Rattle.dc_cli.specs.Answer.{text_limit, Says, SameParams, IsPlainPair, IsAnswer, Succeeds}
 use Rattle.dc_cli.specs.Causes.{IsUnread, IsFirstUnread, IsFaultOf, IsFirstFault, IsFaulty, IsCut}
 use Rattle.dc_cli.specs.Due.{Tells, IsMissing, HasFault, HasAnswer}
 use Rattle.dc_cli.specs.Lines.{status_of}
@@ -42,11 +51,16 @@ told-unread : (files : Option Files) (name x : List ℕ) (before now : ℕ) → 
 told-unread files name x before now h quiet (inl r) = quiet r
 told-unread files name x before now h quiet (inr a) = absent-read files name x a (told-read files name x h)
 
--- a text with a fault is not plain
-fault-not : (text : List ℕ) (line col : ℕ) (kind : Kind) → IsFault text line col kind → (kind ≡ k.NoMemory → ⊥) → IsPlain text → ⊥
-fault-not text line col k.Unexpected h n p = h.2 p
-fault-not text line col k.NoMemory h n p = n refl
-fault-not text line col _ h n p = absurd h
+-- a text says one program, and with a fault none
+says-same : (text : List ℕ) (p q : Proc) → Says text p → Says text q → p ≡ q
+says-same text p q h k = let e : ◌≡◌ {A = Outcome Proc} (says p) (says q) = one_outcome source (judge_source text) text (says p) (says q) h k in cc
+
+says-not : (text : List ℕ) (p : Proc) (f : Fault) → Says text p → SourceOutcome text (refuses f) → ⊥
+says-not text p f h k = let e : ◌≡◌ {A = Outcome Proc} (says p) (refuses f) = one_outcome source (judge_source text) text (says p) (refuses f) h k in cc
+
+fault-not : (text : List ℕ) (p : Proc) (line col : ℕ) (kind : Kind) → IsTold (SourceOutcome text) text line col kind → (kind ≡ k.NoMemory → ⊥) → Says text p → ⊥
+fault-not text p line col k.NoMemory h n s = n refl
+fault-not text p line col _ h n s = says-not text p _ s h.1
 
 -- ---- a finished answer excludes the other causes
 pub answer-missing : {files : Option Files} {new old out : List ℕ} → IsAnswer files new old out → IsAbsent files new ⊎ IsAbsent files old → ⊥
@@ -54,17 +68,13 @@ answer-missing {files} {new} {old} a (inl h) = absent-read files new a.new_text 
 answer-missing {files} {new} {old} a (inr h) = absent-read files old a.old_text h a.old_read
 
 answer-faulty : {words : List (List ℕ)} {files : Option Files} {new old out : List ℕ} → names_in words ≡ Some (new, old) → IsAnswer files new old out → HasFault words files → ⊥
-answer-faulty {words} {files} n a f = go f.fault
+answer-faulty {words} {files} n a f = f.fault (subst (λ q. IsPlainPair f.new_text q) (sym old-text) (subst (λ q. IsPlainPair q a.old_text) (sym new-text) a.pair))
   where
     new-text : f.new_text ≡ a.new_text
     new-text = told-same files f.new f.new_text a.new_text f.new_told (subst (λ q. IsTextOf files q text_limit a.new_text) (new-same n f.names) a.new_read)
 
     old-text : f.old_text ≡ a.old_text
     old-text = told-same files f.old f.old_text a.old_text f.old_told (subst (λ q. IsTextOf files q text_limit a.old_text) (old-same n f.names) a.old_read)
-
-    go : (IsPlain f.new_text → ⊥) ⊎ (IsPlain f.old_text → ⊥) → ⊥
-    go (inl h) = h (subst IsPlain (sym new-text) a.new_parsed.plain)
-    go (inr h) = h (subst IsPlain (sym old-text) a.old_parsed.plain)
 
 pub succeeds-usage : (words : List (List ℕ)) (files : Option Files) (before after : Option (List ℕ)) → Succeeds words files before after → names_in words ≡ None → ⊥
 succeeds-usage words files before after h e = let n : _ = h.3 in cc
@@ -116,16 +126,23 @@ module _ (words : List (List ℕ)) (files : Option Files) (before now : ℕ) (wr
   faulty-due Unwritten h f quiet = absurd (answer-faulty h.4 h.5 f)
   faulty-due NoMemory h f quiet = inr refl
 
-  plain-source : (side : Side) (new old x y : List ℕ) (fault : ParseFault) → (a : HasAnswer words files) → a.new_text ≡ x → a.old_text ≡ y → IsFirstFault side x y fault → ⊥
-  plain-source New new old x y fault a e f h = fault-not x fault.line fault.col fault.kind h.stated h.other (subst IsPlain e a.new_plain)
-  plain-source Old new old x y fault a e f h = fault-not y fault.line fault.col fault.kind h.1.stated h.1.other (subst IsPlain f a.old_plain)
+  first-never : (side : Side) (x y : List ℕ) (wrong : Wrong) → IsPlainPair x y → IsFirstFault side x y wrong → ⊥
+  first-never New x y (Parse f) a h = fault-not x a.new f.line f.col f.kind h.stated h.other a.new_said
+  first-never Old x y (Parse f) a h = fault-not y a.old f.line f.col f.kind h.1.stated h.1.other a.old_said
+  first-never side x y ParametersDiffer a (e, (p, q, s, t, n)) =
+      n (subst (λ z. SameParams p z) (says-same y a.old q a.old_said t) (subst (λ z. SameParams z a.old) (says-same x a.new p a.new_said s) a.agree))
+  first-never New x y NotPlain a (p, q, s, t, m, n) = n (subst IsPlain (says-same x a.new p a.new_said s) a.new_plain)
+  first-never Old x y NotPlain a (p, q, s, t, m, l, n) = n (subst IsPlain (says-same y a.old q a.old_said t) a.old_plain)
+
+  plain-source : (side : Side) (x y : List ℕ) (wrong : Wrong) → (a : HasAnswer words files) → a.new_text ≡ x → a.old_text ≡ y → IsFirstFault side x y wrong → ⊥
+  plain-source side x y wrong a e f h = first-never side x y wrong (subst (λ q. IsPlainPair x q) f (subst (λ q. IsPlainPair q a.old_text) e a.pair)) h
 
   pub answer-due : (r : Refusal) → Holds words files before now written after faults later r → HasAnswer words files → (Rose before now → ⊥) → (Rose faults later → ⊥) → (status_of r ≡ 0) ⊎ (status_of r ≡ 10)
   answer-due Usage h a quiet still = let n : _ = a.names in cc
   answer-due (Unread name) h a quiet still =
       absurd (unread-never h.0 h.1 (string_bytes name) a.new_text a.old_text (subst (λ q. Tells files q a.new_text) (new-same a.names h.2) a.new_told) (subst (λ q. Tells files q a.old_text) (old-same a.names h.2) a.old_told) quiet h.3)
   answer-due (Source side fault) h a quiet still =
-      absurd (plain-source side h.0 h.1 h.3.new_text h.3.old_text fault a
+      absurd (plain-source side h.3.new_text h.3.old_text fault a
       (told-same files h.0 a.new_text h.3.new_text (subst (λ q. Tells files q a.new_text) (new-same a.names h.2) a.new_told) h.3.new_read)
       (told-same files h.1 a.old_text h.3.old_text (subst (λ q. Tells files q a.old_text) (old-same a.names h.2) a.old_told) h.3.old_read) h.3.first)
   answer-due Unwritten h a quiet still = absurd (still h.8)

@@ -4,9 +4,10 @@ use Rattle.std.specs.Fmt.{decimal}
 use Rattle.std.specs.String.{string_bytes}
 use Rattle.dc_syntax.specs.declared.tree.Side.{Side}
 use Rattle.dc_syntax.specs.declared.tree.Side.TheVariants.{New, Old}
-use Rattle.dc_parse.specs.declared.parse.ParseFault.{ParseFault}
-use Rattle.dc_parse.specs.declared.parse.Kind.{Kind}
-use Rattle.dc_parse.specs.declared.parse.Kind.TheVariants as k
+use Rattle.dc_descent.specs.declared.fault.Kind.{Kind}
+use Rattle.dc_descent.specs.declared.fault.Kind.TheVariants as k
+use Rattle.dc_cli.specs.declared.refusal.Wrong.{Wrong}
+use Rattle.dc_cli.specs.declared.refusal.Wrong.TheVariants.{Parse, ParametersDiffer, NotPlain}
 use Rattle.dc_cli.specs.declared.refusal.Refusal.{Refusal}
 use Rattle.dc_cli.specs.declared.refusal.Refusal.TheVariants.{Usage, Unread, Source, Unwritten, NoMemory}
 
@@ -44,13 +45,27 @@ kind_text k.CoefficientRange = codes "CoefficientRange"
 kind_text k.ConditionTooWide = codes "ConditionTooWide"
 kind_text k.NoMemory = codes "NoMemory"
 
-abbrev pub source_text : Side → ParseFault → List ℕ
-source_text side fault =
-    codes "source fault: " ++ (side_text side ++ (codes " " ++ (decimal fault.line ++ (codes ":" ++ (decimal fault.col ++ (codes " " ++ (kind_text fault.kind ++ codes "\n")))))))
+-- where a text is wrong, and what is wrong with it
+abbrev pub line_in : Wrong → ℕ
+line_in (Parse fault) = fault.line
+line_in _ = 1
+
+abbrev pub col_in : Wrong → ℕ
+col_in (Parse fault) = fault.col
+col_in _ = 1
+
+abbrev pub wrong_text : Wrong → List ℕ
+wrong_text (Parse fault) = kind_text fault.kind
+wrong_text ParametersDiffer = codes "ParametersDiffer"
+wrong_text NotPlain = codes "NotPlain"
+
+abbrev pub source_text : Side → Wrong → List ℕ
+source_text side wrong =
+    codes "source fault: " ++ (side_text side ++ (codes " " ++ (decimal (line_in wrong) ++ (codes ":" ++ (decimal (col_in wrong) ++ (codes " " ++ (wrong_text wrong ++ codes "\n")))))))
 
 abbrev pub line_of : Refusal → List ℕ
 line_of Usage = usage_text
 line_of (Unread name) = unread_text (string_bytes name)
-line_of (Source side fault) = source_text side fault
+line_of (Source side wrong) = source_text side wrong
 line_of Unwritten = codes "write fault\n"
 line_of NoMemory = codes "no memory\n"

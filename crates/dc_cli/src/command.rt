@@ -14,7 +14,8 @@ use dc_host::{Sink, Store, put_all};
 use std::alloc::Global;
 
 /// Runs the command that the words after the program's name give, and answers the status of the
-/// program. The one command is `analyse NEW OLD`, on two plain programs.
+/// program. The one command is `analyse NEW OLD`, on two plain programs with the same parameters: whose statements are `skip` and ticks of
+/// numbers alone.
 ///
 /// The whole output is built before the first write. With status 0 `out` has gained the lines
 /// `threshold t` and `whole t`, and every finished run of the new program costs exactly t more than
@@ -22,7 +23,8 @@ use std::alloc::Global;
 ///
 /// - 3, the usage: the words are no command;
 /// - 8, `read fault: NAME`: the file was not handed out, the new one before the old one;
-/// - 4, `source fault: SIDE L:C KIND`: the text is no plain program, the new one before the old one;
+/// - 4, `source fault: SIDE L:C KIND`: the text says no program, the new one before the old one; then `old 1:1 ParametersDiffer`; then
+///   `SIDE 1:1 NotPlain`, the new one before the old one;
 /// - 9, `write fault`: `out` has gained a proper prefix of the output alone;
 /// - 10, `no memory`: `out` is as before.
 ///

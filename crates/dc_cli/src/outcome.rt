@@ -1,25 +1,23 @@
 //! From the words to the output.
-ghost use Rattle.std.specs.Prelude.{◌≡◌, ℕ, ◌≤◌, List, Some, None, pos, ◌-ℤ◌, map, IfOk, IfErr, IsErrOf};
+ghost use Rattle.std.specs.Prelude.{◌≡◌, ℕ, ◌≤◌, List, Some, None, pos, ◌-ℤ◌, map, IfOk, IfErr, OnOk, IsErrOf};
 ghost use Rattle.std.specs.String.{string_bytes};
 ghost use Rattle.dc_syntax.specs.Plain.{plain_cost, IsPlain};
 ghost use Rattle.dc_host.specs.Outside.{IsTextOf};
-ghost use Rattle.dc_parse.specs.Plain.{IsPlainTree};
 ghost use Rattle.dc_cli.specs.Words.{names_in as names_of};
-ghost use Rattle.dc_cli.specs.Answer.{text_limit, lines_of, IsAnswer};
-ghost use Rattle.dc_cli.specs.Causes.{IsUnreadOf, Unfetched, Unparsed, Refused};
+ghost use Rattle.dc_cli.specs.Answer.{text_limit, lines_of, Says, SameParams, IsAnswer};
+ghost use Rattle.dc_cli.specs.Causes.{IsUnreadOf, Unfetched, Unparsed, Unpaired, Refused};
 
 use crate::cost::cost_of;
-use crate::refusal::Refusal;
+use crate::refusal::{Refusal, Wrong};
 use crate::words::names_in;
 use dc_host::{Store, StoreFault};
 use dc_parse::{Kind, parse_proc};
-use dc_syntax::{Proc, Side};
+use dc_syntax::{Proc, Side, same_params};
 use std::alloc::{AllocError, Global};
 
 const TEXT_LIMIT: usize = 65536;
 
 /// The whole output that is due. The files are fetched and then read, the new one before the old one.
-#[tactic(auto, using(crate::proofs::Trees::plain_body))]
 pub fn answer<S: Store>(
     alloc: Global,
     words: &Vec<String>,
@@ -37,6 +35,7 @@ pub fn answer<S: Store>(
     let old_text = fetch_text(alloc, store, old)?;
     let new_tree = tree_of(alloc, Side::New, new_text.as_slice())?;
     let old_tree = tree_of(alloc, Side::Old, old_text.as_slice())?;
+    pair_plain(&new_tree, &old_tree)?;
     match lines(alloc, threshold(&new_tree, &old_tree)) {
         Ok(text) => Ok(text),
         Err(AllocError) => Err(Refusal::NoMemory),
@@ -70,16 +69,35 @@ fn unread(alloc: Global, name: &str) -> Refusal
 
 /// The program that a source says.
 fn tree_of(alloc: Global, side: Side, text: &[u8]) -> Result<Proc, Refusal>
-    ensures ok { IfOk result (IsPlainTree text.now) }
+    ensures ok { IfOk result (Says text.now) }
     ensures refused { IfErr result (Unparsed side text.now) }
 {
     match parse_proc(alloc, text) {
         Ok(tree) => Ok(tree),
         Err(fault) => match fault.kind {
             Kind::NoMemory => Err(Refusal::NoMemory),
-            _ => Err(Refusal::Source(side, fault)),
+            _ => Err(Refusal::Source(side, Wrong::Parse(fault))),
         },
     }
+}
+
+/// Refuses two programs whose parameters differ, or one that isn't plain, the new one before the old one.
+fn pair_plain(new: &Proc, old: &Proc) -> Result<(), Refusal>
+    ensures agree { OnOk result (SameParams new.now old.now) }
+    ensures new_plain { OnOk result (IsPlain new.now) }
+    ensures old_plain { OnOk result (IsPlain old.now) }
+    ensures refused { IfErr result (Unpaired new.now old.now) }
+{
+    if !same_params(new, old) {
+        return Err(Refusal::Source(Side::Old, Wrong::ParametersDiffer));
+    }
+    if cost_of(new.body.as_slice()).is_none() {
+        return Err(Refusal::Source(Side::New, Wrong::NotPlain));
+    }
+    if cost_of(old.body.as_slice()).is_none() {
+        return Err(Refusal::Source(Side::Old, Wrong::NotPlain));
+    }
+    Ok(())
 }
 
 /// The cost of the new program less that of the old one.

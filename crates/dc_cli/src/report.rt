@@ -1,12 +1,12 @@
 //! The status of a refusal and its line.
 ghost use Rattle.std.specs.Prelude.{◌≡◌, ◌≤◌, IfOk, MatchResult, codes};
 ghost use Rattle.std.specs.String.{string_bytes};
-ghost use Rattle.dc_cli.specs.Lines.{unread_text, source_text, side_text, kind_text, usage_text};
+ghost use Rattle.dc_cli.specs.Lines.{unread_text, source_text, side_text, kind_text, wrong_text, line_in, col_in, usage_text};
 ghost use Rattle.dc_cli.specs.Reports.{Said, Reported};
 
-use crate::refusal::Refusal;
+use crate::refusal::{Refusal, Wrong};
 use dc_host::{Sink, put_all};
-use dc_parse::{Kind, ParseFault};
+use dc_parse::Kind;
 use dc_syntax::Side;
 use std::alloc::{AllocError, Global};
 
@@ -19,7 +19,7 @@ pub fn report<E: Sink>(alloc: Global, refusal: &Refusal, err: &mut E) -> u8
     match refusal {
         Refusal::Usage => tell(err, usage(), 3),
         Refusal::Unread(name) => tell_built(err, unread_line(alloc, name.as_str()), 8),
-        Refusal::Source(side, fault) => tell_built(err, source_line(alloc, *side, fault), 4),
+        Refusal::Source(side, wrong) => tell_built(err, source_line(alloc, *side, wrong), 4),
         Refusal::Unwritten => tell(err, "write fault\n", 9),
         Refusal::NoMemory => tell(err, "no memory\n", 10),
     }
@@ -53,14 +53,36 @@ fn unread_line(alloc: Global, name: &str) -> Result<String, AllocError>
     Ok(text)
 }
 
-fn source_line(alloc: Global, side: Side, fault: &ParseFault) -> Result<String, AllocError>
-    ensures { IfOk result (λ text. string_bytes text ≡ source_text side fault.now) }
+fn source_line(alloc: Global, side: Side, wrong: &Wrong) -> Result<String, AllocError>
+    ensures { IfOk result (λ text. string_bytes text ≡ source_text side wrong.now) }
 {
     let side = side_word(side);
-    let (line, col) = (fault.line, fault.col);
-    let kind = kind_word(fault.kind);
-    let text = format!(in alloc; "source fault: {side} {line}:{col} {kind}\n")?;
+    let (line, col) = place(wrong);
+    let word = wrong_word(wrong);
+    let text = format!(in alloc; "source fault: {side} {line}:{col} {word}\n")?;
     Ok(text)
+}
+
+/// The line and the column at which a source is wrong.
+fn place(wrong: &Wrong) -> (u32, u32)
+    ensures line { result.0 ≡ line_in wrong.now }
+    ensures col { result.1 ≡ col_in wrong.now }
+{
+    match wrong {
+        Wrong::Parse(fault) => (fault.line, fault.col),
+        Wrong::ParametersDiffer => (1, 1),
+        Wrong::NotPlain => (1, 1),
+    }
+}
+
+fn wrong_word(wrong: &Wrong) -> &'static str
+    ensures { result.now ≡ wrong_text wrong.now }
+{
+    match wrong {
+        Wrong::Parse(fault) => kind_word(fault.kind),
+        Wrong::ParametersDiffer => "ParametersDiffer",
+        Wrong::NotPlain => "NotPlain",
+    }
 }
 
 fn side_word(side: Side) -> &'static str

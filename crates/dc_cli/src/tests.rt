@@ -35,8 +35,6 @@ fn answers_pairs_of_sources(rt: HostRuntime) -> Result<(), AllocError> {
     let alloc = rt.alloc();
     let words = words_of(alloc, "analyse new.dc old.dc")?;
     let (full, long) = (filled(alloc, 65536)?, filled(alloc, 65537)?);
-    let bad_new = "source fault: new 1:1 Unexpected\n";
-    let bad_old = "source fault: old 1:1 Unexpected\n";
     for (new, old, status, output, line) in [
         (
             "proc f() { tick 5; skip; }",
@@ -53,23 +51,12 @@ fn answers_pairs_of_sources(rt: HostRuntime) -> Result<(), AllocError> {
             "",
         ),
         (
-            "proc f() { skip; }",
-            "proc f() { tick 7; }",
+            "proc f(n) { var i; skip; }",
+            "proc g(n) { tick 7; }",
             0,
             "threshold -7\nwhole -7\n",
             "",
         ),
-        ("proc f(n) { }", "proc f() { }", 4, "", bad_new),
-        ("proc f() { }", "proc f() { tick 2; ", 4, "", bad_old),
-        (
-            "proc f() { x = 1; }",
-            "proc f() { tick n; }",
-            4,
-            "",
-            bad_new,
-        ),
-        ("", "proc f() { }", 4, "", bad_new),
-        ("proc f() { } // \u{e9}", "proc f() { }", 4, "", bad_new),
         (
             "proc f() { tick 2147483647; }",
             "proc f() { }",
@@ -78,20 +65,68 @@ fn answers_pairs_of_sources(rt: HostRuntime) -> Result<(), AllocError> {
             "",
         ),
         (
-            "proc f() { }",
-            "proc f() { tick 2147483648; }",
-            4,
-            "",
-            bad_old,
-        ),
-        (
             full.as_str(),
             "proc f() { }",
             0,
             "threshold 0\nwhole 0\n",
             "",
         ),
-        ("proc f() { }", long.as_str(), 4, "", bad_old),
+        (
+            "proc f() { x = 1; }",
+            "proc f() { tick n; }",
+            4,
+            "",
+            "source fault: new 1:12 UnknownName\n",
+        ),
+        (
+            "",
+            "proc f() { }",
+            4,
+            "",
+            "source fault: new 1:1 Unclosed\n",
+        ),
+        (
+            "proc f() { } // \u{e9}",
+            "proc f(n) { }",
+            4,
+            "",
+            "source fault: new 1:17 NotAscii\n",
+        ),
+        (
+            "proc f(n) { n = 1; }",
+            "proc f() { tick 2; ",
+            4,
+            "",
+            "source fault: old 1:20 Unclosed\n",
+        ),
+        (
+            "proc f() { }",
+            long.as_str(),
+            4,
+            "",
+            "source fault: old 1:1 TooLong\n",
+        ),
+        (
+            "proc f(n) { n = 1; }",
+            "proc f(m) { }",
+            4,
+            "",
+            "source fault: old 1:1 ParametersDiffer\n",
+        ),
+        (
+            "proc f(n) { n = 1; }",
+            "proc f(n) { tick n; }",
+            4,
+            "",
+            "source fault: new 1:1 NotPlain\n",
+        ),
+        (
+            "proc f(n) { skip; }",
+            "proc f(n) { tick n; }",
+            4,
+            "",
+            "source fault: old 1:1 NotPlain\n",
+        ),
     ] {
         let mut store = sources(alloc, new, old)?;
         let mut out = MemSink::new(alloc, 100, 7)?;

@@ -1,5 +1,5 @@
-pub mod Reads
-pub mod Plain
-pub mod Parts
+pub mod Outcomes
+pub mod Forms
+pub mod Steps
+pub mod Judges
 pub mod Answers
-pub mod Stops

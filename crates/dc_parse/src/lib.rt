@@ -1,10 +1,12 @@
-//! From a text to the tree of its program, or to the place where it is none.
+//! From a text to the program or the condition that it says, or to the first byte that is wrong.
 #![tactic(auto)]
 
-mod cursor;
+mod forms;
+pub mod laws;
 mod parse;
-mod plain;
+
+pub use dc_descent::Kind;
+pub use parse::{ParseFault, parse_proc, parse_when};
+
 #[cfg(test)]
 mod tests;
-
-pub use parse::{Kind, ParseFault, one_procedure, parse_proc};

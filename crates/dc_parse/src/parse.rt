@@ -1,53 +1,28 @@
-//! From a text to a procedure.
-ghost use Rattle.std.specs.Prelude.{◌≡◌, ◌≤◌, IfOk, IfErr, length, slice_range};
-ghost use Rattle.dc_parse.specs.Plain.{IsPlainTree, IsFault, SaysOne};
-ghost use Rattle.dc_parse.specs.Answers.{Answers};
+//! From a text to a procedure, and to the cases of a condition.
+ghost use Rattle.std.specs.Prelude.{◌≡◌, ◌≤◌, ◌⊎◌, length, map, take, IfOk, IfErr, OnOk, IsAscii};
+ghost use Rattle.std.specs.String.{string_bytes};
+ghost use Rattle.dc_tokens.specs.declared.token.LexFault.{LexFault as AnyLexFault};
+ghost use Rattle.dc_tokens.specs.Places.{line_at, column_at};
+ghost use Rattle.dc_tokens.specs.Texts.{Tokens, Fails};
+ghost use Rattle.dc_syntax.specs.Params.{params_of};
+ghost use Rattle.dc_affine.specs.Atoms.{cases_of};
+ghost use Rattle.dc_descent.specs.Statements.{head_at};
+ghost use Rattle.dc_program.specs.Programs.{IsProgram, IsCondition};
+ghost use Rattle.dc_parse.specs.Outcomes.{says, refuses};
+ghost use Rattle.dc_parse.specs.Outcomes.{lexed as fault_of};
+ghost use Rattle.dc_parse.specs.Answers.{SourceOutcome, ConditionOutcome, IsRefusal};
 
-use crate::cursor::{Cursor, Stop};
-use crate::plain::procedure;
-use dc_syntax::{Name, Names, Proc, ascii_text};
-use dc_tokens::{Token, tokens};
+use crate::forms::{Starts, form_kind, judge_all};
+use dc_affine::{Atom, dnf};
+use dc_descent::{Fault, Kind, Scope, first_unknown, read_condition, read_source, spelling};
+use dc_syntax::{Name, Proc, ascii_text};
+use dc_tokens::{LexFault, Token, line_col, tokens};
 use std::alloc::Global;
 use thiserror::Error;
 
-/// Why a text is refused.
-#[derive(Clone, Copy, Debug, PartialEq)]
-pub enum Kind {
-    /// The text has more than 65,536 bytes.
-    TooLong,
-    /// A byte of 128 or more.
-    NotAscii,
-    /// A byte that begins no token.
-    BadCharacter,
-    /// A number above 2147483647.
-    LiteralTooWide,
-    /// A token with which no text of the grammar goes on.
-    Unexpected,
-    /// The text ends too soon.
-    Unclosed,
-    /// More than 64 brackets are open, or more than 64 operators stand in one expression or condition.
-    TooDeep,
-    /// More than ten names are declared.
-    TooManyNames,
-    /// A name is declared twice.
-    NameTwice,
-    /// A name is used that isn't declared.
-    UnknownName,
-    /// A form that must be affine has degree 2.
-    NotAffine,
-    /// A form has a degree above 2.
-    DegreeTooHigh,
-    /// A coefficient of a form passes 2147483647 in size.
-    CoefficientRange,
-    /// A condition has more than 64 conjunctions.
-    ConditionTooWide,
-    /// Memory ran out.
-    NoMemory,
-}
-
 /// Why a text is refused, and where: lines and columns count from 1, and want of memory stands at 0:0.
 #[derive(Debug, Drop, Error)]
-#[error("the text is no program")]
+#[error("the text is refused")]
 pub struct ParseFault {
     pub line: u32,
     pub col: u32,
@@ -57,62 +32,176 @@ pub struct ParseFault {
 /// The most bytes that a text may have.
 const LONGEST: usize = 65536;
 
-/// The bytes of a token.
-fn spelling(text: &[u8], token: Token) -> &[u8]
-    requires ordered { token.at ≤ token.end }
-    requires within { token.end ≤ length text.now }
-    ensures { result.now ≡ slice_range text.now token.at token.end }
+fn lex_fault(fault: LexFault) -> Fault
+    ensures { result ≡ fault_of fault }
 {
-    &text[token.at..token.end]
+    match fault {
+        LexFault::NotAscii(at) => Fault {
+            kind: Kind::NotAscii,
+            at,
+        },
+        LexFault::BadCharacter(at) => Fault {
+            kind: Kind::BadCharacter,
+            at,
+        },
+        LexFault::LiteralTooWide(at) => Fault {
+            kind: Kind::LiteralTooWide,
+            at,
+        },
+        LexFault::NoMemory => Fault::want(),
+    }
 }
 
-fn plain_proc(alloc: Global, text: &[u8]) -> Result<Proc, Stop>
-    ensures { Answers text.now result }
+/// The tokens of a text.
+fn lexed(alloc: Global, text: &[u8]) -> Result<Vec<Token>, Fault>
+    ensures tokens { IfOk result (λ v. Tokens 0 text.now v.items) }
+    ensures ascii { OnOk result (IsAscii text.now) }
+    ensures fault { IfErr result (λ f. (f.kind ≡ Kind.NoMemory) ⊎ ((e : AnyLexFault) × Fails 0 text.now e × (f ≡ fault_of e))) }
 {
-    if text.len() > LONGEST {
-        return Err(Stop::Syntax);
+    match tokens(alloc, text) {
+        Ok(found) => Ok(found),
+        Err(fault) => Err(lex_fault(fault)),
     }
-    let tokens = tokens(alloc, text)?;
-    let mut cursor = Cursor {
-        rest: tokens.as_slice(),
+}
+
+/// The place of the first token; 0 where there is none.
+fn first_place(tokens: &[Token]) -> usize
+    ensures { result ≡ head_at tokens.now }
+{
+    match tokens.first() {
+        Some(first) => first.at,
+        None => 0,
+    }
+}
+
+/// The procedure of a text that is not too long, or what is wrong first.
+fn read_proc(alloc: Global, text: &[u8]) -> Result<Proc, Fault>
+    requires short { length text.now ≤ 65536 }
+    ensures says { IfOk result (λ p. SourceOutcome text.now (says p)) }
+    ensures program { IfOk result (λ p. IsProgram p) }
+    ensures fault { IfErr result (λ f. (f.kind ≡ Kind.NoMemory) ⊎ SourceOutcome text.now (refuses f)) }
+{
+    let tokens = lexed(alloc, text)?;
+    let source = read_source(alloc, text, tokens.as_slice())?;
+    let body = source.body;
+    if let Some(fault) = body.fault {
+        return Err(fault);
+    }
+    let mut starts = Starts {
+        rest: body.starts.as_slice(),
     };
-    let found = procedure(alloc, &mut cursor)?;
-    if !cursor.rest.is_empty() {
-        return Err(Stop::Syntax);
-    }
-    let name = ascii_text(alloc, spelling(text, found.name))?;
+    judge_all(alloc, body.stmts.as_slice(), body.names.len(), &mut starts)?;
+    let name = ascii_text(alloc, spelling(text, source.name))?;
     Ok(Proc {
         name: Name::new(name),
-        names: Names::new(alloc),
-        params: 0,
-        body: found.body,
+        names: body.names,
+        params: source.params,
+        body: body.stmts,
     })
 }
 
-/// The procedure of a plain text: `proc NAME ( ) { .. }` with the statements `skip;` and `tick NUMBER;`, in at most 65,536 bytes.
-/// Another text is `Unexpected` at 1:1.
-pub fn parse_proc(alloc: Global, text: &[u8]) -> Result<Proc, ParseFault>
-    ensures tree { IfOk result (IsPlainTree text.now) }
-    ensures fault { IfErr result (λ f. IsFault text.now f.line f.col f.kind) }
+/// The names of a procedure's parameters.
+fn params(p: &Proc) -> &[String]
+    requires { p.now.params ≤ length p.now.names }
+    ensures { map string_bytes result.now ≡ params_of p.now }
 {
-    match plain_proc(alloc, text) {
-        Ok(found) => Ok(found),
-        Err(Stop::Syntax) => Err(ParseFault {
-            line: 1,
-            col: 1,
-            kind: Kind::Unexpected,
-        }),
-        Err(Stop::NoMemory) => Err(ParseFault {
-            line: 0,
-            col: 0,
-            kind: Kind::NoMemory,
+    let names = p.names.as_slice();
+    &names[..p.params]
+}
+
+/// The cases of a condition in a text that is not too long, or what is wrong first.
+fn read_when(alloc: Global, text: &[u8], p: &Proc) -> Result<Vec<Vec<Atom>>, Fault>
+    requires short { length text.now ≤ 65536 }
+    requires program { IsProgram p.now }
+    ensures says { IfOk result (λ v. ConditionOutcome (params_of p.now) text.now (says (cases_of v.items))) }
+    ensures condition { IfOk result (λ v. IsCondition p.now.params (cases_of v.items)) }
+    ensures fault { IfErr result (λ f. (f.kind ≡ Kind.NoMemory) ⊎ ConditionOutcome (params_of p.now) text.now (refuses f)) }
+{
+    let tokens = lexed(alloc, text)?;
+    let scope = Scope {
+        text,
+        names: params(p),
+    };
+    let condition = read_condition(alloc, &scope, tokens.as_slice())?;
+    if let Some(fault) = first_unknown(&scope, tokens.as_slice()) {
+        return Err(fault);
+    }
+    match dnf(alloc, &condition, false, p.params) {
+        Ok(cases) => Ok(cases),
+        Err(fault) => Err(Fault {
+            kind: form_kind(fault),
+            at: first_place(tokens.as_slice()),
         }),
     }
 }
 
-/// A text says at most one procedure.
-pub fn one_procedure(text: &[u8])
-    ensures { SaysOne text.now }
+fn too_long() -> ParseFault
+    ensures { (result.line ≡ 1) × (result.col ≡ 1) × (result.kind ≡ Kind.TooLong) }
 {
-    let _ = text;
+    ParseFault {
+        line: 1,
+        col: 1,
+        kind: Kind::TooLong,
+    }
+}
+
+/// A fault with the line and the column of its byte.
+fn told(text: &[u8], fault: Fault) -> ParseFault
+    requires { length text.now ≤ 65536 }
+    ensures kind { result.kind ≡ fault.kind }
+    ensures want { fault.kind ≡ Kind.NoMemory → (result.line ≡ 0) × (result.col ≡ 0) }
+    ensures place { (fault.kind ≡ Kind.NoMemory → ⊥) → (result.line ≡ line_at text.now fault.at) × (result.col ≡ column_at text.now fault.at) }
+{
+    if matches!(fault.kind, Kind::NoMemory) {
+        return ParseFault {
+            line: 0,
+            col: 0,
+            kind: fault.kind,
+        };
+    }
+    let (line, col) = line_col(text, fault.at.min(text.len()));
+    ParseFault {
+        line,
+        col,
+        kind: fault.kind,
+    }
+}
+
+/// The procedure that a text says, or the first thing that is wrong with the text.
+///
+/// What is wrong is judged in this order: `TooLong`; a byte of 128 or more, a byte that begins no token, or a number that is too wide, the first by place; a
+/// token with which no text goes on, an end that comes too soon, or a token that nests too deep, the first by place; the 11th declared name, a name that
+/// is declared twice, or the use of a name that isn't declared, the first by place; and in the first statement in preorder with such a fault, at the
+/// statement's first token, the first fault of its forms and conditions.
+pub fn parse_proc(alloc: Global, text: &[u8]) -> Result<Proc, ParseFault>
+    ensures says { IfOk result (λ p. SourceOutcome text.now (says p)) }
+    ensures program { IfOk result (λ p. IsProgram p) }
+    ensures fault { IfErr result (λ f. IsRefusal (SourceOutcome text.now) text.now f.line f.col f.kind) }
+{
+    if text.len() > LONGEST {
+        return Err(too_long());
+    }
+    match read_proc(alloc, text) {
+        Ok(found) => Ok(found),
+        Err(fault) => Err(told(text, fault)),
+    }
+}
+
+/// The cases of the condition that a text says over the parameters of a procedure: 1 to 64 conjunctions of affine atoms, of which one holds exactly where the
+/// condition is true.
+///
+/// What is wrong is judged as for [`parse_proc`]; the declared names are the parameters, and a fault of the condition stands at the first token.
+pub fn parse_when(alloc: Global, text: &[u8], p: &Proc) -> Result<Vec<Vec<Atom>>, ParseFault>
+    requires { IsProgram p.now }
+    ensures says { IfOk result (λ v. ConditionOutcome (params_of p.now) text.now (says (cases_of v.items))) }
+    ensures condition { IfOk result (λ v. IsCondition p.now.params (cases_of v.items)) }
+    ensures fault { IfErr result (λ f. IsRefusal (ConditionOutcome (params_of p.now) text.now) text.now f.line f.col f.kind) }
+{
+    if text.len() > LONGEST {
+        return Err(too_long());
+    }
+    match read_when(alloc, text, p) {
+        Ok(found) => Ok(found),
+        Err(fault) => Err(told(text, fault)),
+    }
 }

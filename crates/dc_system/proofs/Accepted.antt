@@ -1,12 +1,12 @@
 -- What the proofs of this crate use of a program.
-use Rattle.std.proofs.Common.{◌≡◌, ℕ, ◌+◌, ◌<◌, ◌≤◌, Bool, true, false, ◌&&◌, leb, List, [], ◌∷◌, ◌++◌, map, length, refl, sym, ap, subst, ◌∙◌, arith}
+use Rattle.std.proofs.Common.{◌≡◌, ℕ, ◌+◌, ◌≤◌, Bool, true, false, ◌&&◌, leb, List, [], ◌∷◌, ◌++◌, map, length, refl, sym, ap, subst, ◌∙◌, arith}
 use Rattle.std.specs.List.{AllByRecursion}
 use Rattle.std.proofs.lemmas.Bool.Decides.{nat_tests}
-use Rattle.dc_syntax.specs.declared.tree.Expr.{Expr, Expr-F, roll-Expr, fold-Expr, fold-roll-Expr}
+use Rattle.dc_syntax.specs.declared.tree.Expr.{Expr, Expr-F, roll-Expr, fold-roll-Expr}
 use Rattle.dc_syntax.specs.declared.tree.Expr.TheOpen as F
-use Rattle.dc_syntax.specs.declared.tree.Cond.{Cond, Cond-F, roll-Cond, fold-Cond, fold-roll-Cond}
+use Rattle.dc_syntax.specs.declared.tree.Cond.{Cond, Cond-F, roll-Cond, fold-roll-Cond}
 use Rattle.dc_syntax.specs.declared.tree.Cond.TheOpen as G
-use Rattle.dc_syntax.specs.declared.tree.Stmt.{Stmt, Stmt-F, roll-Stmt, fold-Stmt, fold-roll-Stmt}
+use Rattle.dc_syntax.specs.declared.tree.Stmt.{Stmt, Stmt-F, roll-Stmt, fold-roll-Stmt}
 use Rattle.dc_syntax.specs.declared.tree.Stmt.TheOpen as H
 use Rattle.dc_syntax.specs.declared.tree.Proc.{Proc}
 use Rattle.dc_syntax.specs.Trees.{EachExpr, EachCond, AllStmts, EachStmt}

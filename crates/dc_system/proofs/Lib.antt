@@ -34,3 +34,4 @@ pub mod Composing
 pub mod Onlies
 pub mod Spotting
 pub mod FoldSteps
+pub mod OneFold

@@ -1,5 +1,5 @@
 -- The number of operators of each expression and of each whole condition of a body.
-use Rattle.std.specs.Prelude.{ℕ, ◌+◌, ltb, eqb, if◌then◌else◌, List, [], ◌∷◌, ◌++◌}
+use Rattle.std.specs.Prelude.{ℕ, ◌+◌, List, [], ◌∷◌, ◌++◌}
 use Rattle.dc_syntax.specs.declared.tree.Expr.{Expr, Expr-F, fold-Expr}
 use Rattle.dc_syntax.specs.declared.tree.Expr.TheOpen as F
 use Rattle.dc_syntax.specs.declared.tree.Cond.{Cond, Cond-F, fold-Cond}

@@ -53,3 +53,7 @@ FoldedIsWellFormed = (y f : System) → IsWellFormed y → IsFolded y f → IsWe
 -- so the paths of a procedure's folded system are its runs
 abbrev pub FoldedPathsAreRuns : Type 0
 FoldedPathsAreRuns = (p : Proc) (f : System) → IsProgram p → size_fault p ≡ None → IsFolded (system_of p) f → (s : State) (c : ℤ) (t : State) → length s ≡ length p.names → Through f s c t ↔ Run p.body s c t
+
+-- one system alone is another one folded
+abbrev pub OneFolded : Type 0
+OneFolded = (s t u : System) → IsFolded s t → IsFolded s u → t ≡ u

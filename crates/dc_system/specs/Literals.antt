@@ -1,5 +1,5 @@
 -- The numbers and the operators that a program's text has.
-use Rattle.std.specs.Prelude.{ℕ, ◌+◌, ltb, eqb, if◌then◌else◌, List, [], ◌∷◌, ◌++◌}
+use Rattle.std.specs.Prelude.{ℕ, ltb, eqb, if◌then◌else◌, List, [], ◌∷◌, ◌++◌}
 use Rattle.dc_syntax.specs.declared.tree.Expr.{Expr, Expr-F, fold-Expr}
 use Rattle.dc_syntax.specs.declared.tree.Expr.TheOpen as F
 use Rattle.dc_syntax.specs.declared.tree.Cond.{Cond, Cond-F, fold-Cond}

@@ -1,5 +1,5 @@
 -- The system of a procedure.
-use Rattle.std.specs.Prelude.{◌≡◌, ℕ, ◌+◌, ◌-◌, ◌^◌, ◌≤◌, min, ltb, if◌then◌else◌, List, [], ◌∷◌, map, length, Some, None}
+use Rattle.std.specs.Prelude.{ℕ, ◌+◌, ◌-◌, ◌^◌, min, ltb, if◌then◌else◌, List, map, length, Some, None}
 use Rattle.std.specs.declared.option.Option.{Option}
 use Rattle.dc_syntax.specs.declared.tree.Proc.{Proc}
 use Rattle.dc_syntax.specs.declared.tree.Count.TheVariants.{Locations, Edges}

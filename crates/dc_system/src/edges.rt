@@ -39,8 +39,9 @@ pub struct System {
 #[derive(Debug, Drop, Error)]
 pub enum SystemFault {
     /// More than 128 locations, or else more than 512 edges. A count past 64 bits stands at 2^64 - 1.
-    #[error("too large: {count}")]
+    #[error("the system is too large")]
     TooLarge { what: Count, count: u64 },
+    /// Memory ran out.
     #[error("out of memory")]
     NoMemory,
 }

@@ -1,5 +1,5 @@
 //! Laws of systems. Each function has no code: what it ensures is the law.
-ghost use Rattle.dc_system.specs.Laws.{AreWellFormed, ComposedCrosses, ComposedIsEdge, FoldedIsWellFormed, FoldedPaths, FoldedPathsAreRuns, LiteralsAreNumbers, PathsAreRuns};
+ghost use Rattle.dc_system.specs.Laws.{AreWellFormed, ComposedCrosses, ComposedIsEdge, FoldedIsWellFormed, FoldedPaths, FoldedPathsAreRuns, LiteralsAreNumbers, OneFolded, PathsAreRuns};
 
 /// From each state, the paths through a procedure's system from location 0 to the exit are exactly the finished runs of its body, at the
 /// same costs and to the same states.
@@ -7,7 +7,7 @@ pub fn paths_are_runs()
     ensures { PathsAreRuns }
 {}
 
-/// The system of an accepted procedure within the limits is well formed.
+/// The system of a program within the limits is well formed.
 pub fn systems_are_well_formed()
     ensures { AreWellFormed }
 {}
@@ -29,4 +29,9 @@ pub fn folded_systems_have_the_paths()
     ensures well_formed { FoldedIsWellFormed }
     ensures paths { FoldedPaths }
     ensures runs { FoldedPathsAreRuns }
+{}
+
+/// One system alone is another one folded.
+pub fn folded_systems_are_fixed()
+    ensures { OneFolded }
 {}

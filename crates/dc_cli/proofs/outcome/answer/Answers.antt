@@ -6,7 +6,7 @@ use mir.Val.{SFits, to_z, of_z}
 use Rattle.std.proofs.lemmas.Int.{to_z-of_z}
 use Rattle.dc_cli.specs.Answer.{text_limit, lines_of}
 use Rattle.dc_cli.specs.Causes.{Refused}
-use Rattle.dc_cli.proofs.Refusals.{AreRead, new-unparsed, old-unparsed, handed-on}
+use Rattle.dc_cli.proofs.Refusals.{AreRead, new-unparsed, old-unparsed, unpaired, handed-on}
 use Rattle.dc_cli.proofs.Trees.{answer-of}
 use Rattle.dc_cli.proofs.outcome.answer.Goals as goal
 
@@ -17,7 +17,7 @@ returns-in-Ok-clause-ok g c =
       c.in-Some.new.now,
       c.in-Some.old.now,
       sym c.in-Some.ensures,
-      answer-of (g.S.Store.files c.args.store.now) (g.S.Store.files c.fetch_text.new.store) c.in-Some.new.now c.in-Some.old.now c.in_ok-new_text.new_text.items c.in_ok-old_text.old_text.items c.as_slice.result.now c.as_slice-2.result.now c.in_ok-new_tree.new_tree c.in_ok-old_tree.old_tree c.threshold.result _ c.in_ok-new_text.ensures.ok c.in_ok-new_text.ensures.files c.in_ok-old_text.ensures.ok c.as_slice.ensures.value c.as_slice-2.ensures.value c.in_ok-new_tree.ensures.ok c.in_ok-old_tree.ensures.ok c.threshold.ensures (c.in-Ok.ensures ∙ ap lines_of e),
+      answer-of (g.S.Store.files c.args.store.now) (g.S.Store.files c.fetch_text.new.store) c.in-Some.new.now c.in-Some.old.now c.in_ok-new_text.new_text.items c.in_ok-old_text.old_text.items c.as_slice.result.now c.as_slice-2.result.now c.in_ok-new_tree.new_tree c.in_ok-old_tree.old_tree c.threshold.result _ c.in_ok-new_text.ensures.ok c.in_ok-new_text.ensures.files c.in_ok-old_text.ensures.ok c.as_slice.ensures.value c.as_slice-2.ensures.value c.in_ok-new_tree.ensures.ok c.in_ok-old_tree.ensures.ok c.in_ok-pair_plain.ensures.agree c.in_ok-pair_plain.ensures.new_plain c.in_ok-pair_plain.ensures.old_plain c.threshold.ensures (c.in-Ok.ensures ∙ ap lines_of e),
     )
 
 pub returns-in_err-new_tree-clause-refused : goal.returns-in_err-new_tree-clause-refused
@@ -51,3 +51,19 @@ returns-in_err-old_tree-clause-refused g c =
     } in
     handed-on c.from_residual-in_err-old_tree.result c.in_err-old_tree.field-0.0 (Refused (map string_bytes c.args.words.now.items) (g.S.Store.files c.args.store.now) (g.S.Store.faults c.args.store.now) (g.S.Store.faults c.fetch_text-2.new.store)) c.from_residual-in_err-old_tree.ensures.1
     (old-unparsed (map string_bytes c.args.words.now.items) (g.S.Store.files c.args.store.now) (g.S.Store.faults c.args.store.now) (g.S.Store.faults c.fetch_text-2.new.store) c.as_slice.result.now c.as_slice-2.result.now c.in_ok-new_tree.new_tree c.in_err-old_tree.field-0.0 read c.in_ok-new_tree.ensures.ok c.in_err-old_tree.ensures.refused)
+
+pub returns-in_err-pair_plain-clause-refused : goal.returns-in_err-pair_plain-clause-refused
+returns-in_err-pair_plain-clause-refused g c =
+    let read : AreRead (map string_bytes c.args.words.now.items) (g.S.Store.files c.args.store.now) c.as_slice.result.now c.as_slice-2.result.now = record {
+      new = c.in-Some.new.now;
+      old = c.in-Some.old.now;
+      names = sym c.in-Some.ensures;
+      new_text = c.in_ok-new_text.new_text.items;
+      old_text = c.in_ok-old_text.old_text.items;
+      new_read = c.in_ok-new_text.ensures.ok;
+      old_read = subst (λ f. IsTextOf f c.in-Some.old.now text_limit c.in_ok-old_text.old_text.items) c.in_ok-new_text.ensures.files c.in_ok-old_text.ensures.ok;
+      new_is = c.as_slice.ensures.value;
+      old_is = c.as_slice-2.ensures.value;
+    } in
+    handed-on c.from_residual-in_err-pair_plain.result c.in_err-pair_plain.field-0.0 (Refused (map string_bytes c.args.words.now.items) (g.S.Store.files c.args.store.now) (g.S.Store.faults c.args.store.now) (g.S.Store.faults c.fetch_text-2.new.store)) c.from_residual-in_err-pair_plain.ensures.1
+    (unpaired (map string_bytes c.args.words.now.items) (g.S.Store.files c.args.store.now) (g.S.Store.faults c.args.store.now) (g.S.Store.faults c.fetch_text-2.new.store) c.as_slice.result.now c.as_slice-2.result.now c.in_ok-new_tree.new_tree c.in_ok-old_tree.old_tree c.in_err-pair_plain.field-0.0 read c.in_ok-new_tree.ensures.ok c.in_ok-old_tree.ensures.ok c.in_err-pair_plain.ensures.refused)

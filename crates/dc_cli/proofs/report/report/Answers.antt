@@ -13,7 +13,7 @@ returns-in-Unread-clause-line g c =
 pub returns-in-Source-clause-line : goal.returns-in-Source-clause-line
 returns-in-Source-clause-line g c =
     let said = λ (l : List ℕ). Said (g.E.Sink.written c.args.err.now) (g.E.Sink.written c.tell_built-in-Source.new.err) (g.E.Sink.faults c.args.err.now) (g.E.Sink.faults c.tell_built-in-Source.new.err) l in
-    subst (λ r. Reported r said c.tell_built-in-Source.result) (sym c.in-Source.is) (built-reported (Source c.in-Source.side c.in-Source.fault) said c.source_line.result (source_text c.in-Source.side c.in-Source.fault) c.tell_built-in-Source.result tt refl c.source_line.ensures c.tell_built-in-Source.ensures.said)
+    subst (λ r. Reported r said c.tell_built-in-Source.result) (sym c.in-Source.is) (built-reported (Source c.in-Source.side c.in-Source.wrong) said c.source_line.result (source_text c.in-Source.side c.in-Source.wrong) c.tell_built-in-Source.result tt refl c.source_line.ensures c.tell_built-in-Source.ensures.said)
 
 pub returns-in-Unwritten-clause-line : goal.returns-in-Unwritten-clause-line
 returns-in-Unwritten-clause-line g c =

@@ -1,0 +1,12 @@
+//! Certificates: what a reviewer keeps of an analysis, and sparse vectors of fractions.
+#![tactic(auto)]
+
+mod certificate;
+pub mod laws;
+mod sparse;
+
+pub use certificate::{Body, Certificate, EdgeCert, Liveness, Settings, SideCert};
+pub use sparse::{Item, Sparse, dense_of, sparse_of};
+
+#[cfg(test)]
+mod tests;

@@ -1,0 +1,81 @@
+//! Numbers, fractions and vectors at the end of a text.
+ghost use Rattle.std.specs.Prelude.{ℕ, ◌≡◌, ◌<◌, ◌^◌, ◌++◌, ◌∷◌, [], OnOk, unsigned_abs};
+ghost use Rattle.std.specs.Fmt.{decimal, signed_decimal};
+ghost use Rattle.dc_certtext.specs.Words.{atom_text, frac_text, item_text, vector_text};
+
+use dc_affine::Atom;
+use dc_cert::{Item, Sparse};
+use dc_frac::Frac;
+use std::alloc::{AllocError, Global};
+
+// A number in decimal.
+pub(crate) fn put_number(alloc: Global, out: &mut Vec<u8>, n: u128) -> Result<(), AllocError>
+    ensures { OnOk result (out.new.items ≡ out.old.items ++ decimal n) }
+{
+    let text = format!(in alloc; "{n}")?;
+    out.extend_from_slice(text.as_bytes())
+}
+
+// A signed number in decimal.
+pub(crate) fn put_whole(alloc: Global, out: &mut Vec<u8>, z: &i128) -> Result<(), AllocError>
+    ensures { OnOk result (out.new.items ≡ out.old.items ++ signed_decimal z.now) }
+{
+    if *z < 0 {
+        out.push(b'-')?;
+    }
+    put_number(alloc, out, z.unsigned_abs())
+}
+
+// A fraction: its denominator stands where it isn't 1.
+pub(crate) fn put_fraction(alloc: Global, out: &mut Vec<u8>, f: &Frac) -> Result<(), AllocError>
+    ensures { OnOk result (out.new.items ≡ out.old.items ++ frac_text f.now) }
+{
+    put_whole(alloc, out, &f.num)?;
+    if f.den != 1 {
+        out.push(b'/')?;
+        put_number(alloc, out, f.den.unsigned_abs())?;
+    }
+    Ok(())
+}
+
+// An item.
+fn put_item(alloc: Global, out: &mut Vec<u8>, item: &Item) -> Result<(), AllocError>
+    ensures { OnOk result (out.new.items ≡ out.old.items ++ item_text item.now) }
+{
+    put_number(alloc, out, item.index as u128)?;
+    out.push(b':')?;
+    put_fraction(alloc, out, &item.value)
+}
+
+// The items of a vector, each with a space in front.
+pub(crate) fn put_vector(alloc: Global, out: &mut Vec<u8>, s: &Sparse) -> Result<(), AllocError>
+    ensures { OnOk result (out.new.items ≡ out.old.items ++ vector_text s.now) }
+{
+    for item in s.items.as_slice() {
+        out.push(b' ')?;
+        put_item(alloc, out, item)?;
+    }
+    Ok(())
+}
+
+// A coefficient with a space in front.
+fn put_coef(alloc: Global, out: &mut Vec<u8>, z: &i64) -> Result<(), AllocError>
+    ensures { OnOk result (out.new.items ≡ out.old.items ++ 32 ∷ signed_decimal z.now) }
+{
+    out.push(b' ')?;
+    if *z < 0 {
+        out.push(b'-')?;
+    }
+    put_number(alloc, out, z.unsigned_abs() as u128)
+}
+
+// The numbers of an atom, each with a space in front.
+pub(crate) fn put_atom(alloc: Global, out: &mut Vec<u8>, atom: &Atom) -> Result<(), AllocError>
+    ensures { OnOk result (out.new.items ≡ out.old.items ++ atom_text atom.now) }
+{
+    put_coef(alloc, out, &atom.c0)?;
+    for coef in atom.coefs.as_slice() {
+        put_coef(alloc, out, coef)?;
+    }
+    Ok(())
+}

@@ -1,0 +1,152 @@
+//! Numbers, fractions and vectors from a text.
+ghost use Rattle.std.specs.Prelude.{ℕ, ℤ, List, ◌≡◌, ◌≢◌, ◌≤◌, ◌<◌, ◌^◌, ◌++◌, ◌≤ℤ◌, pos, unsigned_abs, MatchOption};
+ghost use Rattle.std.specs.Fmt.{decimal, signed_decimal};
+ghost use Rattle.dc_math.specs.Gcd.{gcd};
+ghost use Rattle.dc_frac.specs.declared.Frac.{Frac as Fraction};
+ghost use Rattle.dc_frac.specs.Fits.{IsSmall};
+ghost use Rattle.dc_cert.specs.declared.sparse.Item.{Item as Entry};
+ghost use Rattle.dc_cert.specs.Vectors.{IsItem};
+ghost use Rattle.dc_certtext.specs.Cuts.{onward, until};
+ghost use Rattle.dc_certtext.specs.Words.{den_text, frac_text, item_text};
+
+use dc_cert::Item;
+use dc_frac::{Frac, gcd128};
+
+// The greatest size of a part of a fraction.
+const GREATEST: u128 = 0x7fff_ffff_ffff_ffff_ffff_ffff_ffff_ffff;
+
+// The text up to the first place of a byte, and from there on.
+pub(crate) fn cut(text: &[u8], at: u8) -> (&[u8], &[u8])
+    ensures front { result.0.now ≡ until at text.now }
+    ensures rest { result.1.now ≡ onward at text.now }
+{
+    for (k, byte) in text.iter().enumerate() {
+        if *byte == at {
+            return (&text[..k], &text[k..]);
+        }
+    }
+    (text, &[])
+}
+
+#[tactic(auto, using(crate::specs::Numerals::reading))]
+// The number below 2^127 that a word spells.
+pub(crate) fn natural(word: &[u8]) -> Option<u128>
+    ensures { MatchOption result ((n : ℕ) → n < 2 ^ 127 → ¬ (decimal n ≡ word.now)) (λ n. (n < 2 ^ 127) × (decimal n ≡ word.now)) }
+{
+    if word.is_empty() {
+        return None;
+    }
+    let mut n: u128 = 0;
+    for (k, byte) in word.iter().enumerate() {
+        if *byte < b'0' || *byte > b'9' {
+            return None;
+        }
+        if k > 0 && n == 0 {
+            return None;
+        }
+        let digit = (*byte - b'0') as u128;
+        if n > (GREATEST - digit) / 10 {
+            return None;
+        }
+        n = 10 * n + digit;
+    }
+    Some(n)
+}
+
+// What follows a word at the beginning of a text.
+pub(crate) fn strip<'a>(text: &'a [u8], key: &[u8]) -> Option<&'a [u8]>
+    ensures { MatchOption result ((r : List ℕ) → text.now ≢ key.now ++ r) (λ r. text.now ≡ key.now ++ r.now) }
+{
+    text.strip_prefix(key)
+}
+
+// The whole number of size below 2^127 that a word spells.
+#[tactic(auto, using(crate::specs::Fractions::wholes))]
+pub(crate) fn whole(word: &[u8]) -> Option<i128>
+    ensures { MatchOption result ((z : ℤ) → unsigned_abs z < 2 ^ 127 → ¬ (signed_decimal z ≡ word.now)) (λ z. (unsigned_abs z < 2 ^ 127) × (signed_decimal z ≡ word.now)) }
+{
+    match strip(word, b"-") {
+        Some(rest) => {
+            let size = natural(rest)?;
+            if size == 0 {
+                return None;
+            }
+            Some(-(size as i128))
+        }
+        None => Some(natural(word)? as i128),
+    }
+}
+
+// The denominator that `/D` spells, 1 where there is nothing.
+#[tactic(auto, using(crate::specs::Fractions::dens))]
+fn denominator(text: &[u8]) -> Option<i128>
+    ensures { MatchOption result ((n : ℕ) → 1 ≤ n → n < 2 ^ 127 → ¬ (den_text n ≡ text.now))
+        (λ d. (pos 1 ≤ℤ d) × (unsigned_abs d < 2 ^ 127) × (den_text (unsigned_abs d) ≡ text.now)) }
+{
+    if text.is_empty() {
+        return Some(1);
+    }
+    let den = natural(strip(text, b"/")?)?;
+    if den < 2 {
+        return None;
+    }
+    Some(den as i128)
+}
+
+// The fraction that a word spells.
+#[tactic(auto, using(crate::specs::Fractions::fractions))]
+pub(crate) fn fraction(word: &[u8]) -> Option<Frac>
+    ensures { MatchOption result ((f : Fraction) → IsSmall f.den → ¬ (frac_text f ≡ word.now)) (λ f. IsSmall f.den × (frac_text f ≡ word.now)) }
+{
+    let (front, rest) = cut(word, b'/');
+    let Some(num) = whole(front) else {
+        return None;
+    };
+    let Some(den) = denominator(rest) else {
+        return None;
+    };
+    reduced(&num, &den)
+}
+
+// The fraction of two parts in lowest terms.
+fn reduced(num: &i128, den: &i128) -> Option<Frac>
+    requires num_small { unsigned_abs num.now < 2 ^ 127 }
+    requires den_small { unsigned_abs den.now < 2 ^ 127 }
+    requires positive { pos 1 ≤ℤ den.now }
+    ensures { MatchOption result (¬ (gcd (unsigned_abs num.now) (unsigned_abs den.now) ≡ 1)) (λ f. (f.num ≡ num.now) × (f.den ≡ den.now)) }
+{
+    if gcd128(*num, *den) != 1 {
+        return None;
+    }
+    Some(Frac {
+        num: *num,
+        den: *den,
+    })
+}
+
+// The item that a word spells.
+#[tactic(auto, using(crate::specs::Fractions::items))]
+pub(crate) fn item(word: &[u8]) -> Option<Item>
+    ensures { MatchOption result ((i : Entry) → IsItem i → ¬ (item_text i ≡ word.now)) (λ i. IsItem i × (item_text i ≡ word.now)) }
+{
+    let (front, rest) = cut(word, b':');
+    let Some(index) = natural(front) else {
+        return None;
+    };
+    let Some(digits) = strip(rest, b":") else {
+        return None;
+    };
+    let Some(value) = fraction(digits) else {
+        return None;
+    };
+    if index > 8191 {
+        return None;
+    }
+    if value.is_zero() {
+        return None;
+    }
+    Some(Item {
+        index: index as usize,
+        value,
+    })
+}

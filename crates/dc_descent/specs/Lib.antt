@@ -1,0 +1,9 @@
+pub mod Trees
+pub mod Scopes
+pub mod Reads
+pub mod Statements
+pub mod Alternatives
+pub mod Wants
+pub mod Faults
+pub mod Sources
+pub mod Reading

@@ -1,0 +1,7 @@
+use Rattle.dc_syntax.specs.Params.{params_of}
+use Rattle.dc_parse.specs.Answers.{SourceOutcome, ConditionOutcome}
+use Rattle.dc_parse.proofs.Refused.{refused}
+use Rattle.dc_parse.proofs.parse.parse_proc.Goals as goal
+
+pub returns-in-Err-clause-fault : goal.returns-in-Err-clause-fault
+returns-in-Err-clause-fault c = refused (SourceOutcome c.args.text.now) c.args.text.now c.in-Err.fault c.told.result.kind c.told.result.line c.told.result.col c.told.ensures.kind c.told.ensures.want c.told.ensures.place c.in-Err.ensures.fault
