@@ -1,8 +1,6 @@
 -- A text up to the first place of a byte, and from there on.
-use Rattle.std.specs.Prelude.{◌≡◌, ℕ, Bool, true, false, eqb, cond, List, [], ◌∷◌, ◌++◌, refl}
-use Rattle.std.proofs.Common.{sym, ◌∙◌, ap, append_assoc}
-use Rattle.std.proofs.lemmas.Bool.{eq-eqb, eqb-true, eqb-false}
-use Rattle.dc_certtext.specs.Words.{Bytes, spaced}
+use Rattle.std.specs.Prelude.{◌≡◌, ℕ, eqb, cond, [], ◌∷◌}
+use Rattle.dc_certtext.specs.Words.{Bytes}
 
 abbrev pub until : ℕ → Bytes → Bytes
 until b [] = []
@@ -21,62 +19,3 @@ Lacks b (x ∷ xs) = (¬ (x ≡ b)) × Lacks b xs
 abbrev pub Starts : ℕ → Bytes → Type 0
 Starts b [] = Unit {0}
 Starts b (x ∷ xs) = x ≡ b
-
-pub differ-eqb : (m k : ℕ) → ¬ (m ≡ k) → eqb m k ≡ false
-differ-eqb m k h = by (eqb m k) refl
-  where
-    by : (b : Bool) → eqb m k ≡ b → b ≡ false
-    by true e = absurd (h (eqb-true m k e))
-    by false e = refl
-
-pub until-append : (b : ℕ) (w r : Bytes) → Lacks b w → Starts b r → until b (w ++ r) ≡ w
-until-append b [] [] h s = refl
-until-append b [] (x ∷ r) h s = ap (λ t. cond t [] (x ∷ until b r)) (eq-eqb x b s)
-until-append b (x ∷ w) r h s = ap (λ t. cond t [] (x ∷ until b (w ++ r))) (differ-eqb x b h.0) ∙ ap (λ l. x ∷ l) (until-append b w r h.1 s)
-
-pub onward-append : (b : ℕ) (w r : Bytes) → Lacks b w → Starts b r → onward b (w ++ r) ≡ r
-onward-append b [] [] h s = refl
-onward-append b [] (x ∷ r) h s = ap (λ t. cond t (x ∷ r) (onward b r)) (eq-eqb x b s)
-onward-append b (x ∷ w) r h s = ap (λ t. cond t (x ∷ (w ++ r)) (onward b (w ++ r))) (differ-eqb x b h.0) ∙ onward-append b w r h.1 s
-
-pub cut_whole : (b : ℕ) (xs : Bytes) → until b xs ++ onward b xs ≡ xs
-cut_whole b [] = refl
-cut_whole b (x ∷ xs) = by (cut_whole b xs) (eqb x b)
-  where
-    by : until b xs ++ onward b xs ≡ xs → (t : Bool) → cond t [] (x ∷ until b xs) ++ cond t (x ∷ xs) (onward b xs) ≡ x ∷ xs
-    by r true = refl
-    by r false = ap (λ l. x ∷ l) r
-
-pub until-lacks : (b : ℕ) (xs : Bytes) → Lacks b (until b xs)
-until-lacks b [] = tt
-until-lacks b (x ∷ xs) = by (until-lacks b xs) (eqb x b) refl
-  where
-    by : Lacks b (until b xs) → (t : Bool) → eqb x b ≡ t → Lacks b (cond t [] (x ∷ until b xs))
-    by r true e = tt
-    by r false e = (eqb-false x b e, r)
-
-pub onward-starts : (b : ℕ) (xs : Bytes) → Starts b (onward b xs)
-onward-starts b [] = tt
-onward-starts b (x ∷ xs) = by (onward-starts b xs) (eqb x b) refl
-  where
-    by : Starts b (onward b xs) → (t : Bool) → eqb x b ≡ t → Starts b (cond t (x ∷ xs) (onward b xs))
-    by r true e = eqb-true x b e
-    by r false e = r
-
-pub lacks-append : (b : ℕ) (xs ys : Bytes) → Lacks b xs → Lacks b ys → Lacks b (xs ++ ys)
-lacks-append b [] ys h k = k
-lacks-append b (x ∷ xs) ys h k = (h.0, lacks-append b xs ys h.1 k)
-
--- two texts that are cut at the same byte are equal piece by piece
-pub same_cut : (b : ℕ) (v w r s : Bytes) → Lacks b v → Lacks b w → Starts b r → Starts b s → v ++ r ≡ w ++ s → (v ≡ w) × (r ≡ s)
-same_cut b v w r s h k i j e =
-    (sym (until-append b v r h i) ∙ ap (until b) e ∙ until-append b w s k j, sym (onward-append b v r h i) ∙ ap (onward b) e ∙ onward-append b w s k j)
-
--- ---- lists with a space in front of each
-pub spaced-starts : {A : Type 0} (f : A → Bytes) (xs : List A) → Starts 32 (spaced f xs)
-spaced-starts f [] = tt
-spaced-starts f (x ∷ xs) = refl
-
-pub spaced-append : {A : Type 0} (f : A → Bytes) (xs ys : List A) → spaced f (xs ++ ys) ≡ spaced f xs ++ spaced f ys
-spaced-append f [] ys = refl
-spaced-append f (x ∷ xs) ys = ap (λ l. 32 ∷ l) (ap (λ l. f x ++ l) (spaced-append f xs ys) ∙ sym (append_assoc (f x) (spaced f xs) (spaced f ys)))

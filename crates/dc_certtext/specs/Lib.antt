@@ -1,8 +1,11 @@
 pub mod Words
 pub mod Cuts
-pub mod Numerals
-pub mod Fractions
-pub mod Taken
 pub mod Text
 pub mod Limits
 pub mod WriteFaults
+pub mod Begins
+pub mod Offers
+pub mod Stages
+pub mod Due
+pub mod ReadFaults
+pub mod Outcomes

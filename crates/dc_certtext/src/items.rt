@@ -1,13 +1,17 @@
-//! Vectors as text, item by item.
-ghost use Rattle.std.specs.Prelude.{ℕ, List, ◌≡◌, ◌++◌, ◌∷◌, IfOk, MatchOption};
+//! Vectors and atoms from a text, item by item.
+ghost use Rattle.std.specs.Prelude.{ℕ, ℤ, List, ◌≡◌, ◌≤◌, ◌++◌, ◌∷◌, unsigned_abs, IfOk, MatchOption};
+ghost use Rattle.std.specs.Fmt.{signed_decimal};
+ghost use Rattle.dc_affine.specs.declared.atom.Atom.{Atom as Fact};
+ghost use Rattle.dc_affine.specs.Atoms.{IsAtom};
 ghost use Rattle.dc_cert.specs.declared.sparse.Sparse.{Sparse as Vector};
 ghost use Rattle.dc_cert.specs.declared.sparse.Item.{Item as Entry};
 ghost use Rattle.dc_cert.specs.Vectors.{IsItem, IsVector};
 ghost use Rattle.dc_certtext.specs.Cuts.{Starts};
-ghost use Rattle.dc_certtext.specs.Words.{item_text, vector_text};
+ghost use Rattle.dc_certtext.specs.Words.{atom_text, item_text, vector_text};
 
 use crate::put::put_vector;
-use crate::read::{cut, item, strip};
+use crate::read::{cut, item, strip, whole};
+use dc_affine::Atom;
 use dc_cert::{Item, Sparse};
 use sqlite_items::Items;
 use std::alloc::{AllocError, Global};
@@ -59,4 +63,56 @@ fn next_item(text: &[u8]) -> Option<(Item, &[u8])>
         return None;
     };
     Some((next, more))
+}
+
+// The first number of a text, with the space in front, and the text behind it.
+fn next_number(text: &[u8]) -> Option<(i64, &[u8])>
+    ensures { MatchOption result ((z : ℤ) (r : List ℕ) → unsigned_abs z ≤ 2147483648 → Starts 32 r → ¬ (32 ∷ (signed_decimal z ++ r) ≡ text.now))
+        (λ p. (unsigned_abs p.0 ≤ 2147483648) × Starts 32 p.1.now × (32 ∷ (signed_decimal p.0 ++ p.1.now) ≡ text.now)) }
+{
+    let Some(inside) = strip(text, b" ") else {
+        return None;
+    };
+    let (word, more) = cut(inside, b' ');
+    let Some(next) = whole(word) else {
+        return None;
+    };
+    if next.unsigned_abs() > 2147483648 {
+        return None;
+    }
+    Some((narrow(&next), more))
+}
+
+// The same number.
+fn narrow(z: &i128) -> i64
+    requires { unsigned_abs z.now ≤ 2147483648 }
+    ensures { result ≡ z.now }
+{
+    *z as i64
+}
+
+/// The atom whose numbers stand there, each with a space in front, with `None` exactly where no atom of at
+/// most 10 coefficients, within their sizes, has this text.
+pub(crate) fn read_atom(alloc: Global, text: &[u8]) -> Result<Option<Atom>, AllocError>
+    ensures { IfOk result (λ o. MatchOption o ((a : Fact) → IsAtom 10 a → ¬ (atom_text a ≡ text.now)) (λ a. IsAtom 10 a × (atom_text a ≡ text.now))) }
+{
+    let Some((c0, more)) = next_number(text) else {
+        return Ok(None);
+    };
+    let mut coefs = Items::new(alloc);
+    let mut rest = more;
+    'coefs: while !rest.is_empty() {
+        if coefs.len() >= 10 {
+            return Ok(None);
+        }
+        let Some((coef, more)) = next_number(rest) else {
+            return Ok(None);
+        };
+        if coef.unsigned_abs() > 2147483647 {
+            return Ok(None);
+        }
+        coefs.push(coef)?;
+        rest = more;
+    }
+    Ok(Some(Atom { c0, coefs }))
 }

@@ -28,7 +28,7 @@ pub(crate) fn cut(text: &[u8], at: u8) -> (&[u8], &[u8])
     (text, &[])
 }
 
-#[tactic(auto, using(crate::specs::Numerals::reading))]
+#[tactic(auto, using(crate::proofs::Numerals::reading))]
 // The number below 2^127 that a word spells.
 pub(crate) fn natural(word: &[u8]) -> Option<u128>
     ensures { MatchOption result ((n : ℕ) → n < 2 ^ 127 → ¬ (decimal n ≡ word.now)) (λ n. (n < 2 ^ 127) × (decimal n ≡ word.now)) }
@@ -61,7 +61,7 @@ pub(crate) fn strip<'a>(text: &'a [u8], key: &[u8]) -> Option<&'a [u8]>
 }
 
 // The whole number of size below 2^127 that a word spells.
-#[tactic(auto, using(crate::specs::Fractions::wholes))]
+#[tactic(auto, using(crate::proofs::Fractions::wholes))]
 pub(crate) fn whole(word: &[u8]) -> Option<i128>
     ensures { MatchOption result ((z : ℤ) → unsigned_abs z < 2 ^ 127 → ¬ (signed_decimal z ≡ word.now)) (λ z. (unsigned_abs z < 2 ^ 127) × (signed_decimal z ≡ word.now)) }
 {
@@ -78,7 +78,7 @@ pub(crate) fn whole(word: &[u8]) -> Option<i128>
 }
 
 // The denominator that `/D` spells, 1 where there is nothing.
-#[tactic(auto, using(crate::specs::Fractions::dens))]
+#[tactic(auto, using(crate::proofs::Fractions::dens))]
 fn denominator(text: &[u8]) -> Option<i128>
     ensures { MatchOption result ((n : ℕ) → 1 ≤ n → n < 2 ^ 127 → ¬ (den_text n ≡ text.now))
         (λ d. (pos 1 ≤ℤ d) × (unsigned_abs d < 2 ^ 127) × (den_text (unsigned_abs d) ≡ text.now)) }
@@ -94,7 +94,7 @@ fn denominator(text: &[u8]) -> Option<i128>
 }
 
 // The fraction that a word spells.
-#[tactic(auto, using(crate::specs::Fractions::fractions))]
+#[tactic(auto, using(crate::proofs::Fractions::fractions))]
 pub(crate) fn fraction(word: &[u8]) -> Option<Frac>
     ensures { MatchOption result ((f : Fraction) → IsSmall f.den → ¬ (frac_text f ≡ word.now)) (λ f. IsSmall f.den × (frac_text f ≡ word.now)) }
 {
@@ -125,7 +125,7 @@ fn reduced(num: &i128, den: &i128) -> Option<Frac>
 }
 
 // The item that a word spells.
-#[tactic(auto, using(crate::specs::Fractions::items))]
+#[tactic(auto, using(crate::proofs::Fractions::items))]
 pub(crate) fn item(word: &[u8]) -> Option<Item>
     ensures { MatchOption result ((i : Entry) → IsItem i → ¬ (item_text i ≡ word.now)) (λ i. IsItem i × (item_text i ≡ word.now)) }
 {

@@ -335,7 +335,7 @@ fn body(alloc: Global, out: &mut Vec<u8>, body: &Body) -> Result<(), AllocError>
 }
 
 // The whole text.
-pub(crate) fn put_text(alloc: Global, out: &mut Vec<u8>, c: &Certificate) -> Result<(), AllocError>
+fn put_text(alloc: Global, out: &mut Vec<u8>, c: &Certificate) -> Result<(), AllocError>
     ensures { OnOk result (out.new.items ≡ out.old.items ++ text_of c.now) }
 {
     head(alloc, out, c)?;
@@ -359,9 +359,15 @@ pub enum WriteFault {
     NoMemory,
 }
 
-const LIMIT: usize = 16777216;
+/// The greatest number of bytes of a text.
+pub(crate) const LIMIT: usize = 16777216;
 
-/// The one text of a certificate. `TooLarge` comes exactly where it has more than 16,777,216 bytes.
+/// The one text of a certificate that is in its ranges (`dc_cert`'s `specs/Ranges`).
+///
+/// # Errors
+///
+/// `TooLarge` where the text has more than 16,777,216 bytes, and only there, with its length; else `NoMemory`, for
+/// want of memory alone.
 pub fn write_cert(alloc: Global, c: &Certificate) -> Result<Vec<u8>, WriteFault>
     requires { IsCertificate c.now }
     ensures text { IfOk result (λ v. v.items ≡ text_of c.now) }

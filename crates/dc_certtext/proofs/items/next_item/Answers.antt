@@ -1,4 +1,4 @@
-use Rattle.dc_certtext.specs.Taken.{refuse_item, piece_is, piece-starts}
+use Rattle.dc_certtext.proofs.Taken.{refuse_item, piece_is, piece-starts}
 use Rattle.dc_certtext.proofs.items.next_item.Goals as goal
 
 pub returns-in_default-item : goal.returns-in_default-item

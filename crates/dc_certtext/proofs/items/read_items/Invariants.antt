@@ -1,5 +1,5 @@
 use Rattle.std.proofs.Common.{length}
-use Rattle.dc_certtext.specs.Taken.{Taken}
+use Rattle.dc_certtext.proofs.Taken.{Taken}
 use Rattle.dc_certtext.proofs.items.read_items.Given as goal
 
 abbrev pub invariant-items : goal.invariant-items

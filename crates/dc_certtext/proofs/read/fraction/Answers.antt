@@ -1,7 +1,7 @@
 use Rattle.std.proofs.Common.{rules, SFits}
 use Rattle.std.specs.Int.{w128}
 use Rattle.std.proofs.lemmas.Int.{to_z-of_z}
-use Rattle.dc_certtext.specs.Fractions.{refuse_front, refuse_rest, frac_end}
+use Rattle.dc_certtext.proofs.Fractions.{refuse_front, refuse_rest, frac_end}
 use Rattle.dc_certtext.proofs.read.fraction.Goals as goal
 
 pub returns-in_default : goal.returns-in_default

@@ -1,5 +1,5 @@
 use Rattle.std.proofs.Common.{sym, refl}
-use Rattle.dc_certtext.specs.Fractions.{refuse_index, refuse_colon, refuse_value, refuse_high, refuse_nothing, item_is}
+use Rattle.dc_certtext.proofs.Fractions.{refuse_index, refuse_colon, refuse_value, refuse_high, refuse_nothing, item_is}
 use Rattle.dc_certtext.proofs.read.item.Goals as goal
 
 pub returns-in_default : goal.returns-in_default

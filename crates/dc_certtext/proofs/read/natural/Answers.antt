@@ -1,5 +1,5 @@
 use Rattle.std.proofs.Common.{refl, arith}
-use Rattle.dc_certtext.specs.Numerals.{read_digit}
+use Rattle.dc_certtext.proofs.Numerals.{read_digit}
 use Rattle.dc_certtext.proofs.read.natural.Goals as goal
 use Rattle.dc_certtext.proofs.read.natural.Goals.{else-k-gt0-via-then-k-gt0+else-n-eq0, else-k-gt0-via-else-k-gt0}
 

@@ -1,4 +1,4 @@
-use Rattle.dc_certtext.specs.Numerals.{IsRead}
+use Rattle.dc_certtext.proofs.Numerals.{IsRead}
 use Rattle.dc_certtext.proofs.read.natural.Given as goal
 
 abbrev pub invariant-loop-k : goal.invariant-loop-k

@@ -1,4 +1,4 @@
-use Rattle.dc_certtext.specs.Fractions.{refuse_minus_zero}
+use Rattle.dc_certtext.proofs.Fractions.{refuse_minus_zero}
 use Rattle.dc_certtext.proofs.read.whole.Goals as goal
 
 pub returns-then-size-eq0 : goal.returns-then-size-eq0

@@ -9,9 +9,10 @@ use Rattle.dc_cert.specs.declared.sparse.Sparse.{Sparse}
 use Rattle.dc_cert.specs.Vectors.{IsItem, AreItems, IsVector}
 use Rattle.dc_cert.specs.VectorLaws.{AreWithin, within-append, within_items}
 use Rattle.dc_certtext.specs.Words.{Bytes, item_text, spaced, vector_text}
-use Rattle.dc_certtext.specs.Cuts.{Starts, differ-eqb, until, onward, until-append, cut_whole, onward-starts, same_cut, spaced-starts, spaced-append}
-use Rattle.dc_certtext.specs.Numerals.{whole_lacks, whole_one}
-use Rattle.dc_certtext.specs.Fractions.{item-lacks, item_one}
+use Rattle.dc_certtext.specs.Cuts.{Starts, until, onward}
+use Rattle.dc_certtext.proofs.Cutting.{differ-eqb, until-append, cut_whole, onward-starts, same_cut, spaced-starts, spaced-append}
+use Rattle.dc_certtext.proofs.Numerals.{whole_lacks, whole_one}
+use Rattle.dc_certtext.proofs.Fractions.{item-lacks, item_one}
 
 tail_of : (x : ℕ) (u v : Bytes) → x ∷ u ≡ x ∷ v → u ≡ v
 tail_of x u v e = cc

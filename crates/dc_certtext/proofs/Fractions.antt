@@ -15,8 +15,9 @@ use Rattle.dc_frac.specs.Value.{value}
 use Rattle.dc_cert.specs.declared.sparse.Item.{Item}
 use Rattle.dc_cert.specs.Vectors.{IsItem}
 use Rattle.dc_certtext.specs.Words.{Bytes, den_text, frac_text, item_text}
-use Rattle.dc_certtext.specs.Cuts.{Lacks, Starts, until, onward, until-append, onward-append, cut_whole, same_cut, lacks-append, differ-eqb}
-use Rattle.dc_certtext.specs.Numerals.{Digits, digits-lack, decimal_digits, decimal_one, whole_lacks, whole_one}
+use Rattle.dc_certtext.specs.Cuts.{Lacks, Starts, until, onward}
+use Rattle.dc_certtext.proofs.Cutting.{until-append, onward-append, cut_whole, same_cut, lacks-append, differ-eqb}
+use Rattle.dc_certtext.proofs.Numerals.{Digits, digits-lack, decimal_digits, decimal_one, whole_lacks, whole_one}
 
 -- ---- signed numbers, as they are read
 pub whole_minus : (n : ℕ) (w r : Bytes) → 0 < n → decimal n ≡ r → w ≡ 45 ∷ r → signed_decimal (neg_ℤ (pos n)) ≡ w
