@@ -9,6 +9,3 @@ pub mod laws;
 pub use atom::Atom;
 pub use condition::dnf;
 pub use form::{FormFault, affine, normal};
-
-#[cfg(test)]
-mod tests;

@@ -7,6 +7,3 @@ mod sparse;
 
 pub use certificate::{Body, Certificate, EdgeCert, Liveness, Settings, SideCert};
 pub use sparse::{Item, Sparse, dense_of, sparse_of};
-
-#[cfg(test)]
-mod tests;

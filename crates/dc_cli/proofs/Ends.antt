@@ -23,7 +23,7 @@ use Rattle.dc_cli.specs.declared.refusal.Refusal.{Refusal}
 use Rattle.dc_cli.specs.declared.refusal.Refusal.TheVariants.{Usage, Unread, Source, Unwritten, NoMemory}
 use Rattle.dc_cli.specs.Words.{names_in}
 use Rattle.dc_cli.specs.Answer.{text_limit, Says, SameParams, IsPlainPair, IsAnswer, Succeeds}
-use Rattle.dc_cli.specs.Causes.{IsUnread, IsFirstUnread, IsFaultOf, IsFirstFault, IsFaulty, IsCut}
+use Rattle.dc_cli.specs.Causes.{IsUnread, IsFirstUnread, IsFirstFault}
 use Rattle.dc_cli.specs.Due.{Tells, IsMissing, HasFault, HasAnswer}
 use Rattle.dc_cli.specs.Lines.{status_of}
 use Rattle.dc_cli.specs.Reports.{Reported, Holds, IsEarly, IsRefusal}

@@ -1,5 +1,5 @@
 -- From what a step refuses to the refusal of the whole.
-use Rattle.std.proofs.Common.{◌≡◌, sym, subst, ℕ, List, Some, None}
+use Rattle.std.proofs.Common.{◌≡◌, sym, subst, ℕ, List, Some}
 use Rattle.std.specs.Prelude.{Ok, Err, IfErr, IsErrAnd}
 use Rattle.std.specs.declared.result.Result.{Result}
 use Rattle.std.specs.declared.option.Option.{Option}
@@ -10,10 +10,10 @@ use Rattle.dc_syntax.specs.declared.tree.Side.TheVariants.{New, Old}
 use Rattle.dc_cli.specs.declared.refusal.Wrong.{Wrong}
 use Rattle.dc_cli.specs.declared.refusal.Wrong.TheVariants.{Parse, ParametersDiffer, NotPlain}
 use Rattle.dc_cli.specs.declared.refusal.Refusal.{Refusal}
-use Rattle.dc_cli.specs.declared.refusal.Refusal.TheVariants.{Usage, Unread, Source, Unwritten, NoMemory}
+use Rattle.dc_cli.specs.declared.refusal.Refusal.TheVariants.{Source, NoMemory}
 use Rattle.dc_cli.specs.Words.{names_in}
 use Rattle.dc_cli.specs.Answer.{text_limit, Says}
-use Rattle.dc_cli.specs.Causes.{IsFaultOf, IsFirstFault, IsFaulty, Unparsed, Unpaired, Refused}
+use Rattle.dc_cli.specs.Causes.{IsFaultOf, IsFirstFault, Unparsed, Unpaired, Refused}
 
 -- both texts were handed out, and x and y are what was read of them
 pub record AreRead (words : List (List ℕ)) (files : Option Files) (x y : List ℕ) : Type 0 where

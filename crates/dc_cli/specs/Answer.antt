@@ -1,5 +1,5 @@
 -- The output that is due for two plain programs.
-use Rattle.std.specs.Prelude.{◌≡◌, ℕ, List, [], ◌++◌, Some, ℤ, pos, ◌-ℤ◌, codes}
+use Rattle.std.specs.Prelude.{◌≡◌, ℕ, List, ◌++◌, Some, ℤ, pos, ◌-ℤ◌, codes}
 use Rattle.std.specs.declared.option.Option.{Option}
 use Rattle.std.specs.Fmt.{signed_decimal}
 use Rattle.dc_host.specs.Outside.{Files, IsTextOf, appended}

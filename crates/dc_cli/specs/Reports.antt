@@ -4,7 +4,7 @@ use Rattle.std.specs.declared.option.Option.{Option}
 use Rattle.std.specs.declared.result.Result.{Result}
 use Rattle.dc_host.specs.Outside.{Files, Rose, appended}
 use Rattle.dc_cli.specs.declared.refusal.Refusal.{Refusal}
-use Rattle.dc_cli.specs.declared.refusal.Refusal.TheVariants.{Usage, Unread, Source, Unwritten, NoMemory}
+use Rattle.dc_cli.specs.declared.refusal.Refusal.TheVariants.{Unread, Source, Unwritten}
 use Rattle.dc_cli.specs.Answer.{Succeeds}
 use Rattle.dc_cli.specs.Causes.{Refused, IsCut}
 use Rattle.dc_cli.specs.Lines.{status_of, line_of}

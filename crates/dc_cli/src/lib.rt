@@ -9,8 +9,6 @@ mod cost;
 mod outcome;
 mod refusal;
 mod report;
-#[cfg(test)]
-mod tests;
 mod words;
 
 pub use command::top;

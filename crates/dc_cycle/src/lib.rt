@@ -1,9 +1,6 @@
 //! Solving without a limit on pivots: how many a run can make at most, and a call that always comes to the end of the run.
 #![tactic(auto)]
 
-#[cfg(test)]
-mod tests;
-
 ghost use Rattle.std.specs.Prelude.{◌≡◌, ◌+◌, ◌<◌, ◌≤◌, ◌^◌, IfOk, SomeIff};
 ghost use Rattle.dc_lp.specs.Problems.{IsWellFormed, linear_of};
 ghost use Rattle.dc_lp.specs.Verdicts.{columns};

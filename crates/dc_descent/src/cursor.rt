@@ -38,7 +38,7 @@ pub struct Cursor<'a> {
 pub fn same(a: TokenKind, b: TokenKind) -> bool
     ensures { result ≡ is a b }
 {
-    a as u8 == b as u8
+    a == b
 }
 
 impl<'a> Cursor<'a> {

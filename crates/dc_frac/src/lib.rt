@@ -10,8 +10,6 @@ pub mod laws;
 mod ops;
 mod order;
 mod parts;
-#[cfg(test)]
-mod tests;
 
 ghost use Rattle.std.specs.Prelude.{◌≡◌, ◌<◌, ◌^◌, pos, ◌≤ℤ◌, unsigned_abs};
 ghost use Rattle.dc_math.specs.Gcd.{gcd};

@@ -6,6 +6,3 @@ mod forms;
 pub mod laws;
 
 pub use choices::{product_count, products};
-
-#[cfg(test)]
-mod tests;

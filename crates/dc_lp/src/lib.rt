@@ -10,8 +10,6 @@ mod fold;
 pub mod laws;
 mod shape;
 mod tableau;
-#[cfg(test)]
-mod tests;
 
 pub use crate::check::{check_dual, check_primal, check_ray, check_refutation};
 pub use crate::tableau::{PastPivot, PastQuotient, Tableau};

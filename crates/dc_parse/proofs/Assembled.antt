@@ -1,13 +1,12 @@
 -- From the parts of a parser's answer to the outcome of the text.
-use Rattle.std.proofs.Common.{◌≡◌, ◌⊎◌, inl, inr, ℕ, ◌<◌, ◌≤◌, Bool, true, false, ◌&&◌, leb, List, [], ◌∷◌, ◌++◌, suc, length, map, take, refl, sym, ap, ap₂, ◌∙◌, subst, arith, length-append, length-take, Some, None, Result, Err}
+use Rattle.std.proofs.Common.{◌≡◌, ◌⊎◌, inl, inr, ℕ, ◌<◌, ◌≤◌, Bool, true, false, ◌&&◌, leb, List, [], ◌∷◌, ◌++◌, suc, length, map, refl, sym, ap, ap₂, ◌∙◌, subst, arith, length-append, Some, None, Result}
 use Rattle.std.specs.Prelude.{IsErrAnd, IfErr}
 use Rattle.std.proofs.lemmas.Result.{err_from_is_err_and}
 use Rattle.std.proofs.lemmas.Bool.Decides.{nat_tests}
-use Rattle.std.specs.declared.option.Option.{Option}
 use Rattle.dc_tokens.specs.declared.token.Token.{Token}
 use Rattle.dc_tokens.specs.declared.token.LexFault.{LexFault}
 use Rattle.dc_tokens.specs.Texts.{Tokens, Fails}
-use Rattle.dc_grammar.specs.Grammar.{Tree, Derives, ref}
+use Rattle.dc_grammar.specs.Grammar.{Tree}
 use Rattle.dc_grammar.specs.Language.{Name, language, source, cond}
 use Rattle.dc_grammar.specs.Depth.{IsDeep}
 use Rattle.dc_grammar.specs.Verdicts.{Verdict, whole, Finds}
@@ -27,21 +26,20 @@ use Rattle.dc_descent.specs.declared.sources.Source.{Source}
 use Rattle.dc_descent.specs.Faults.{fault, declared_fault, used_fault, verdict_fault}
 use Rattle.dc_descent.specs.Scopes.{spelled, place_in}
 use Rattle.dc_descent.specs.Sources.{Parts, parts_of, declared, names_of, body_of, names_fault, IsSource}
-use Rattle.dc_descent.specs.Statements.{head_at, first_at, starts_of, stmts_of}
+use Rattle.dc_descent.specs.Statements.{head_at, first_at}
 use Rattle.dc_descent.specs.Trees.{leaves, cond_of}
 use Rattle.dc_descent.proofs.Lists.{derived_leaves}
 use Rattle.dc_parse.specs.Outcomes.{Outcome, says, refuses, lexed, IsOutcome, bytes, grammar, tree, first_of}
 use Rattle.dc_parse.specs.Forms.{all_faults, first_form, all_below, form_kind}
-use Rattle.dc_parse.specs.Judges.{proc_of, forms_fault, judge_parts, judge_source, form_at, judge_condition}
+use Rattle.dc_parse.specs.Judges.{proc_of, forms_fault, judge_parts, form_at, judge_condition}
 use Rattle.dc_parse.specs.Answers.{SourceOutcome, ConditionOutcome}
-use Rattle.dc_parse.proofs.Cases.{condition_meets}
 use Rattle.dc_parse.proofs.Counted.{Each}
-use Rattle.dc_parse.proofs.Facts.{Known, CondFacts, cond_facts}
+use Rattle.dc_parse.proofs.Facts.{Known}
 use Rattle.dc_parse.proofs.Naming.{none_both, GoodNames, declared_good, no_names, used_known}
 use Rattle.dc_parse.proofs.Passing.{forms_pass}
 use Rattle.dc_parse.proofs.Shallows.{small_tokens, few_of}
 use Rattle.dc_parse.proofs.Sourced.{Inner, source_body}
-use Rattle.dc_parse.proofs.Tame.{Tame, Goods, GoodCond, good_stmts, good_cond}
+use Rattle.dc_parse.proofs.Tame.{Goods, GoodCond, good_stmts, good_cond}
 
 -- ---- faults that are handed on
 

@@ -4,7 +4,7 @@ use Rattle.std.proofs.lemmas.Bool.Decides.{nat_tests}
 use Rattle.dc_tokens.specs.declared.token.TokenKind.{TokenKind}
 use Rattle.dc_tokens.specs.declared.token.TokenKind.TheVariants as k
 use Rattle.dc_tokens.specs.declared.token.Token.{Token}
-use Rattle.dc_grammar.specs.Grammar.{has, one, tok, ref, seq, many, Tree, Derives, token, nothing, name, both, first, second, no_more, one_more}
+use Rattle.dc_grammar.specs.Grammar.{has, one, tok, ref, seq, many, Tree, Derives, token, name, both, first, second, no_more, one_more}
 use Rattle.dc_grammar.specs.Kinds.{is}
 use Rattle.dc_grammar.specs.Language as lang
 use Rattle.dc_grammar.specs.Language.{language}
@@ -16,8 +16,8 @@ use Rattle.dc_syntax.specs.declared.tree.Cond.TheVariants as c
 use Rattle.dc_affine.specs.Forms.{below_step, is_below}
 use Rattle.dc_affine.specs.Atoms.{cond_below_step, cond_is_below}
 use Rattle.dc_program.specs.Limits.{literals_step, literals_fit, cond_literals_step, cond_literals_fit, operators_step, operators, cond_operators_step, cond_operators}
-use Rattle.dc_descent.specs.Trees.{sum_by, unary_of, term_of, factors, expr_of, summands, rel_of, fact_of, conj_of, conjuncts, cond_of, disjuncts}
-use Rattle.dc_parse.proofs.Counted.{is_operator, is_inside, is_same, Each, each_both, each_front, each_rest, Inside, one_if, ops, ops_both, Operates, Stands, operates, stands}
+use Rattle.dc_descent.specs.Trees.{unary_of, term_of, factors, expr_of, summands, rel_of, fact_of, conj_of, conjuncts, cond_of, disjuncts}
+use Rattle.dc_parse.proofs.Counted.{is_same, Each, each_both, each_front, each_rest, Inside, one_if, ops, ops_both, Operates, Stands, operates, stands}
 use Rattle.dc_parse.proofs.Folds.{at_num, at_var, at_neg, at_add, at_sub, at_mul, at_true, at_false, at_cmp, at_not, at_and, at_or}
 
 -- a name has a place below n, and a number is at most 2147483647

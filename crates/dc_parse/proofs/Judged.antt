@@ -4,7 +4,7 @@ use Rattle.std.proofs.lemmas.Bool.Decides.{nat_tests}
 use Rattle.std.specs.declared.option.Option.{Option}
 use Rattle.dc_tokens.specs.declared.token.Token.{Token}
 use Rattle.dc_tokens.specs.declared.token.LexFault.{LexFault}
-use Rattle.dc_tokens.specs.Texts.{Tokens, Fails, HasOneReading}
+use Rattle.dc_tokens.specs.Texts.{Tokens, Fails}
 use Rattle.dc_tokens.proofs.Readings.{one_reading}
 use Rattle.dc_grammar.specs.Grammar.{Tree}
 use Rattle.dc_grammar.specs.Language.{Name, language}
@@ -15,7 +15,7 @@ use Rattle.dc_grammar.proofs.Right.{deep_or_not, nothing_shallow}
 use Rattle.dc_grammar.proofs.Verdicts.{has_one_verdict}
 use Rattle.dc_descent.specs.declared.fault.Fault.{Fault}
 use Rattle.dc_descent.specs.Faults.{verdict_fault}
-use Rattle.dc_parse.specs.Outcomes.{Outcome, says, refuses, lexed, IsOutcome, too_long, bytes, grammar, tree, HasOneOutcome}
+use Rattle.dc_parse.specs.Outcomes.{Outcome, refuses, lexed, IsOutcome, too_long, bytes, grammar, tree, HasOneOutcome}
 
 verdicts : (ts : List Token) → HasOneVerdict language IsDeep ts
 verdicts ts = has_one_verdict language_ahead IsDeep deep_or_not nothing_shallow ts

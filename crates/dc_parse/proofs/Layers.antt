@@ -6,7 +6,7 @@ use Rattle.dc_syntax.specs.declared.tree.Stmt.{Stmt, Stmt-F, out-Stmt, map-Stmt,
 use Rattle.dc_syntax.specs.declared.tree.Stmt.TheVariants as v
 use Rattle.dc_syntax.specs.declared.tree.Stmt.TheOpen.{Skip, Assign, AnyOf, Between, Tick, Assume, If, IfAny, While, WhileAny}
 use Rattle.dc_affine.specs.declared.form.FormFault.{FormFault}
-use Rattle.dc_affine.specs.Whole.{statement_fault, statement_below, inner, each}
+use Rattle.dc_affine.specs.Whole.{statement_fault, statement_below, each}
 use Rattle.dc_parse.specs.Forms.{joined, faults_step, faults_in, all_faults, below_step, stmt_below, all_below}
 
 -- ---- faults

@@ -1,15 +1,13 @@
 -- Statements without a fault pass.
 use Rattle.std.proofs.Common.{◌≡◌, ℕ, Bool, true, false, ◌&&◌, List, [], ◌∷◌, ◌++◌, map, refl, sym, ap, ◌∙◌, Some, None}
 use Rattle.std.specs.declared.option.Option.{Option}
-use Rattle.std.specs.Option.{option_or}
 use Rattle.dc_syntax.specs.declared.tree.Stmt.{Stmt, Stmt-F, roll-Stmt, map-Stmt, fold-roll-Stmt}
 use Rattle.dc_syntax.specs.declared.tree.Stmt.TheOpen.{Skip, Assign, AnyOf, Between, Tick, Assume, If, IfAny, While, WhileAny}
 use Rattle.dc_syntax.specs.Trees.{AllStmts, EachStmt}
 use Rattle.dc_syntax.proofs.Inductions.{Stmt-induction}
 use Rattle.dc_affine.specs.declared.form.FormFault.{FormFault}
 use Rattle.dc_affine.specs.Whole.{statement_fault, statement_below, no_fault, each, inner, pass_step, statement_passes, all_pass}
-use Rattle.dc_descent.specs.declared.fault.Fault.{Fault}
-use Rattle.dc_parse.specs.Forms.{faults_step, faults_in, all_faults, first_form, tail_of, below_step, stmt_below, all_below}
+use Rattle.dc_parse.specs.Forms.{faults_step, faults_in, all_faults, first_form, below_step, stmt_below, all_below}
 use Rattle.dc_parse.specs.Steps.{after_all}
 use Rattle.dc_parse.proofs.Layers.{both, inside, faults_layer}
 use Rattle.dc_parse.proofs.Naming.{none_both}

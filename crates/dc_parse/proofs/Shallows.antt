@@ -1,10 +1,10 @@
 -- The tokens of a text that is not too deep: their numbers are small, and few operators stand in a row.
-use Rattle.std.proofs.Common.{◌≡◌, ◌⊎◌, inl, inr, ℕ, ◌+◌, ◌<◌, ◌≤◌, Bool, true, false, ◌||◌, nat_lt, List, [], ◌∷◌, ◌++◌, length, take, refl, sym, ap, ◌∙◌, subst, append_assoc, arith, length-append, if◌then◌else◌}
+use Rattle.std.proofs.Common.{◌≡◌, ◌⊎◌, inr, ℕ, ◌+◌, ◌<◌, ◌≤◌, Bool, true, false, ◌||◌, nat_lt, List, [], ◌∷◌, ◌++◌, length, take, refl, sym, ap, ◌∙◌, subst, append_assoc, arith, length-append, if◌then◌else◌}
 use Rattle.std.proofs.lemmas.Bool.Decides.{nat_tests}
 use Rattle.std.specs.List.{fold}
 use Rattle.std.proofs.lemmas.List.Sums.{fold-append}
 use Rattle.dc_tokens.specs.declared.token.Token.{Token}
-use Rattle.dc_tokens.specs.Pieces.{Piece, separator, comment, token}
+use Rattle.dc_tokens.specs.Pieces.{separator, comment, token}
 use Rattle.dc_tokens.specs.Texts.{Tokens, end, piece}
 use Rattle.dc_grammar.specs.Grammar.{has}
 use Rattle.dc_grammar.specs.Kinds.{is}

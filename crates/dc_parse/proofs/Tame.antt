@@ -1,10 +1,10 @@
 -- What is known of statements from the tokens that derive them.
-use Rattle.std.proofs.Common.{◌≡◌, ℕ, ◌+◌, ◌<◌, ◌≤◌, Bool, true, false, ◌&&◌, ◌||◌, ltb, leb, List, [], ◌∷◌, ◌++◌, map, refl, sym, ap, ◌∙◌, append_assoc, append-nil, arith, Some, None}
+use Rattle.std.proofs.Common.{◌≡◌, ℕ, ◌+◌, ◌<◌, ◌≤◌, Bool, true, false, ◌&&◌, ◌||◌, ltb, leb, List, [], ◌∷◌, ◌++◌, refl, sym, ap, ◌∙◌, append_assoc, append-nil, arith, Some, None}
 use Rattle.std.specs.declared.option.Option.{Option}
 use Rattle.std.proofs.lemmas.Bool.Decides.{nat_tests}
 use Rattle.dc_tokens.specs.declared.token.TokenKind.TheVariants as k
 use Rattle.dc_tokens.specs.declared.token.Token.{Token}
-use Rattle.dc_grammar.specs.Grammar.{has, tok, ref, seq, many, opt, ◌▸◌, Tree, Derives, token, nothing, name, both, first, second, no_more, one_more}
+use Rattle.dc_grammar.specs.Grammar.{has, tok, ref, many, opt, ◌▸◌, Tree, Derives, token, nothing, name, both, first, second, no_more, one_more}
 use Rattle.dc_grammar.specs.Kinds.{is}
 use Rattle.dc_grammar.specs.Language as lang
 use Rattle.dc_grammar.specs.Language.{language}
@@ -14,10 +14,9 @@ use Rattle.dc_syntax.specs.declared.tree.Stmt.{Stmt}
 use Rattle.dc_syntax.specs.declared.tree.Stmt.TheVariants as v
 use Rattle.dc_affine.specs.Forms.{is_below}
 use Rattle.dc_affine.specs.Atoms.{cond_is_below}
-use Rattle.dc_program.specs.Limits.{literals_fit, operators, is_limited, cond_literals_fit, cond_operators, cond_is_limited, limits_step, stmt_is_limited, all_limited}
-use Rattle.dc_descent.specs.declared.parts.Range.{Range}
+use Rattle.dc_program.specs.Limits.{literals_fit, operators, is_limited, cond_literals_fit, cond_is_limited, limits_step, stmt_is_limited, all_limited}
 use Rattle.dc_descent.specs.Trees.{expr_of, cond_of}
-use Rattle.dc_descent.specs.Statements.{range_of, any_by, assigned_of, choice_of, branch_by, loop_by, stmt_of, stmts_of, block_of, else_of}
+use Rattle.dc_descent.specs.Statements.{assigned_of, choice_of, branch_by, loop_by, stmt_of, stmts_of, block_of, else_of}
 use Rattle.dc_parse.specs.Forms.{below_step, stmt_below, all_below}
 use Rattle.dc_parse.proofs.Counted.{is_same, Each, each_front, each_rest, Inside, ops}
 use Rattle.dc_parse.proofs.Facts.{Known, Small, ExprFacts, CondFacts, expr_facts, cond_facts}

@@ -8,7 +8,6 @@ use Rattle.dc_grammar.specs.Grammar.{Tree, Derives, ref}
 use Rattle.dc_grammar.specs.Language.{language, source, cond}
 use Rattle.dc_grammar.specs.Verdicts.{Shallow}
 use Rattle.dc_syntax.specs.declared.tree.Proc.{Proc}
-use Rattle.dc_syntax.specs.Params.{params_of}
 use Rattle.dc_affine.specs.declared.atom.Atom.{Atom}
 use Rattle.dc_descent.specs.declared.fault.Kind.{Kind}
 use Rattle.dc_descent.specs.declared.fault.Kind.TheVariants as k

@@ -7,6 +7,3 @@ mod parse;
 
 pub use dc_descent::Kind;
 pub use parse::{ParseFault, parse_proc, parse_when};
-
-#[cfg(test)]
-mod tests;

@@ -21,7 +21,7 @@ use Rattle.dc_printed.specs.Laws.{HasTree}
 use Rattle.dc_printed.specs.Brackets.{brackets_of, brackets_in}
 use Rattle.dc_printed.specs.Fits.{IsName, AreNames, AreDifferent, IsWritable}
 use Rattle.dc_printed.proofs.Words as words
-use Rattle.dc_printed.proofs.Words.{Reads, nothing_read, Breaks, token_of, front, back}
+use Rattle.dc_printed.proofs.Words.{Reads, nothing_read, Breaks, token_of}
 use Rattle.dc_printed.proofs.Signs as sign
 use Rattle.dc_printed.proofs.Says.{Says, says_word}
 use Rattle.dc_printed.proofs.Exprs.{Finds, later, here}

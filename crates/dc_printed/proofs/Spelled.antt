@@ -8,7 +8,7 @@ use Rattle.dc_tokens.specs.Spelling.{is_word, is_number, word_kind, short_sign, 
 use Rattle.dc_tokens.specs.Pieces.{Piece, separator, comment, token}
 use Rattle.dc_tokens.specs.Texts.{Tokens, end, piece, with_token}
 use Rattle.dc_grammar.specs.Kinds.{is}
-use Rattle.dc_grammar.specs.Grammar.{Rule, one, nil, ref, seq, alt, many, tok, opt, has, Tree, leaf, none, pair, left, right, Derives, name, nothing, both, first, second, no_more, one_more}
+use Rattle.dc_grammar.specs.Grammar.{ref, seq, many, tok, opt, has, Tree, Derives, name, nothing, both, first, second, no_more, one_more}
 use Rattle.dc_grammar.specs.Grammar as g
 use Rattle.dc_grammar.specs.Language.{language, source, names}
 use Rattle.dc_descent.specs.Scopes.{spelled}

@@ -22,7 +22,7 @@ use Rattle.dc_printed.specs.Fits.{IsName, AreNames, fits, cond_fits, stmt_fits, 
 use Rattle.dc_printed.proofs.Parts.{below}
 use Rattle.dc_printed.proofs.StmtParts.{text-Skip, text-Assign, text-AnyOf, text-Between, text-Tick, text-Assume, text-If, text-IfAny, text-While, text-WhileAny, fits-Assign, fits-AnyOf, fits-Between, fits-Tick, fits-Assume, fits-If, fits-IfAny, fits-While, fits-WhileAny}
 use Rattle.dc_printed.proofs.Words as words
-use Rattle.dc_printed.proofs.Words.{Reads, nothing_read, Breaks, token_of, front, back}
+use Rattle.dc_printed.proofs.Words.{nothing_read, Breaks, token_of}
 use Rattle.dc_printed.proofs.Signs as sign
 use Rattle.dc_printed.proofs.Says.{Says, placed, followed, spaced, spaced_after, says_word, says_sign}
 use Rattle.dc_printed.proofs.Exprs.{SaysExpr, Finds, later, here, printed_expr}

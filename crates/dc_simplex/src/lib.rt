@@ -7,8 +7,6 @@
 pub mod laws;
 mod next;
 mod run;
-#[cfg(test)]
-mod tests;
 mod vectors;
 
 ghost use Rattle.std.specs.Prelude.{◌≡◌, ◌≢◌, ℕ, ◌+◌, ◌≤◌, IfOk};

@@ -7,6 +7,3 @@ mod listing;
 
 pub use column::template_column;
 pub use listing::{monomials, unknowns};
-
-#[cfg(test)]
-mod tests;

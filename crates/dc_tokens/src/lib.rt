@@ -4,8 +4,6 @@
 mod lex;
 mod place;
 mod scan;
-#[cfg(test)]
-mod tests;
 mod token;
 
 pub use lex::{one_reading, tokens};

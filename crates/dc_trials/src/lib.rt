@@ -1,14 +1,20 @@
-//! Tests that cross crates: from the text of a source to its printed text, to its system and to its folded system.
+//! Tests of the language: tokens, sources, trees and their printed texts, conditions, systems and folded systems.
 //!
-//! The crate has no function of its own. Each expected text is written by hand from the language's page and from the table of what each
+//! The crate has no function of its own. Each expected value was written by hand from `docs/language.md` and from the table of what each
 //! statement adds to a system.
 #![tactic(auto)]
 
 #[cfg(test)]
-mod certificates;
+mod conditions;
 #[cfg(test)]
 mod printing;
+#[cfg(test)]
+mod sources;
 #[cfg(test)]
 mod systems;
 #[cfg(test)]
 mod text;
+#[cfg(test)]
+mod tokens;
+#[cfg(test)]
+mod trees;

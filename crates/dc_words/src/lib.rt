@@ -12,8 +12,6 @@ mod arguments;
 mod commands;
 mod matching;
 mod reading;
-#[cfg(test)]
-mod tests;
 
 use reading::{read_analyse, read_check, read_sample};
 use std::alloc::{AllocError, Global};

@@ -1,5 +1,5 @@
 use Rattle.std.proofs.Common.{sym, ap, subst, refl, inl, List, ℕ}
-use Rattle.dc_cli.specs.declared.refusal.Refusal.TheVariants.{Unread, Source, Unwritten}
+use Rattle.dc_cli.specs.declared.refusal.Refusal.TheVariants.{Unread, Source}
 use Rattle.dc_cli.specs.Lines.{unread_text, source_text}
 use Rattle.dc_cli.specs.Reports.{Said, Reported}
 use Rattle.dc_cli.proofs.Told.{built-reported}

@@ -1,7 +1,5 @@
-use Rattle.std.proofs.Common.{◌≡◌, ◌++◌, ◌∷◌, [], refl, sym, ap, ◌∙◌, rules, List, None, arith, drop, ◌+◌}
-use Rattle.std.specs.declared.option.Option.{Option}
+use Rattle.std.proofs.Common.{◌≡◌, ◌++◌, ◌∷◌, [], refl, sym, ap, ◌∙◌, arith, drop, ◌+◌}
 use Rattle.dc_syntax.specs.declared.tree.Stmt.{out-Stmt}
-use Rattle.dc_affine.specs.declared.form.FormFault.{FormFault}
 use Rattle.dc_affine.specs.Whole.{statement_fault}
 use Rattle.dc_parse.specs.Forms.{faults_in, all_faults, first_form}
 use Rattle.dc_parse.specs.Steps.{after_all}

@@ -1,5 +1,5 @@
-use Rattle.std.proofs.Common.{◌≡◌, ◌+◌, ◌*◌, length, drop, None}
-use Rattle.dc_parse.specs.Forms.{all_below, all_faults, faults_in, first_form}
+use Rattle.std.proofs.Common.{◌≡◌, ◌+◌, ◌*◌, length, drop}
+use Rattle.dc_parse.specs.Forms.{all_faults, faults_in, first_form}
 use Rattle.dc_parse.specs.Steps.{after_all}
 use Rattle.dc_parse.proofs.forms.+forms.Given as goal
 

@@ -1,5 +1,4 @@
-use Rattle.dc_syntax.specs.Params.{params_of}
-use Rattle.dc_parse.specs.Answers.{SourceOutcome, ConditionOutcome}
+use Rattle.dc_parse.specs.Answers.{SourceOutcome}
 use Rattle.dc_parse.proofs.Refused.{refused}
 use Rattle.dc_parse.proofs.parse.parse_proc.Goals as goal
 

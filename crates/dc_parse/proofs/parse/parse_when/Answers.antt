@@ -1,5 +1,5 @@
 use Rattle.dc_syntax.specs.Params.{params_of}
-use Rattle.dc_parse.specs.Answers.{SourceOutcome, ConditionOutcome}
+use Rattle.dc_parse.specs.Answers.{ConditionOutcome}
 use Rattle.dc_parse.proofs.Refused.{refused}
 use Rattle.dc_parse.proofs.parse.parse_when.Goals as goal
 

@@ -1,4 +1,4 @@
-use Rattle.std.proofs.Common.{◌≡◌, sym, ◌∙◌, ap, subst, arith, refl, map, min, length-take, length}
+use Rattle.std.proofs.Common.{◌≡◌, sym, ◌∙◌, ap, subst, arith, map, length-take}
 use Rattle.std.specs.String.{string_bytes}
 use Rattle.dc_tokens.specs.Texts.{Tokens}
 use Rattle.dc_grammar.specs.Language.{cond}
