@@ -151,7 +151,7 @@ fn changed(
     Ok(out)
 }
 
-// The line at which a text is refused, 0 where it is none's fault.
+// The line at which a text is refused, 0 where it is read.
 fn refused_at(alloc: Global, text: &str) -> Result<u64, Fail> {
     match read_cert(alloc, text.as_bytes()) {
         Ok(_) => Ok(0),

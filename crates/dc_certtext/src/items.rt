@@ -16,6 +16,13 @@ use dc_cert::{Item, Sparse};
 use sqlite_items::Items;
 use std::alloc::{AllocError, Global};
 
+// The greatest sizes of the numbers of an atom, and how many stand behind the constant.
+const MOST_CONSTANT: u128 = 2147483648;
+
+const MOST_COEFFICIENT: u64 = 2147483647;
+
+const MOST_COEFFICIENTS: usize = 10;
+
 /// The items of a vector as they stand on a line, each with a space in front: ` I:F`.
 pub fn write_items(alloc: Global, s: &Sparse) -> Result<Vec<u8>, AllocError>
     requires { IsVector s.now }
@@ -77,7 +84,7 @@ fn next_number(text: &[u8]) -> Option<(i64, &[u8])>
     let Some(next) = whole(word) else {
         return None;
     };
-    if next.unsigned_abs() > 2147483648 {
+    if next.unsigned_abs() > MOST_CONSTANT {
         return None;
     }
     Some((narrow(&next), more))
@@ -102,13 +109,13 @@ pub(crate) fn read_atom(alloc: Global, text: &[u8]) -> Result<Option<Atom>, Allo
     let mut coefs = Items::new(alloc);
     let mut rest = more;
     'coefs: while !rest.is_empty() {
-        if coefs.len() >= 10 {
+        if coefs.len() >= MOST_COEFFICIENTS {
             return Ok(None);
         }
         let Some((coef, more)) = next_number(rest) else {
             return Ok(None);
         };
-        if coef.unsigned_abs() > 2147483647 {
+        if coef.unsigned_abs() > MOST_COEFFICIENT {
             return Ok(None);
         }
         coefs.push(coef)?;

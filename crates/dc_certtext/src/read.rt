@@ -12,6 +12,9 @@ ghost use Rattle.dc_certtext.specs.Words.{den_text, frac_text, item_text};
 use dc_cert::Item;
 use dc_frac::{Frac, gcd128};
 
+// The greatest index of an item.
+const MOST_INDEX: u128 = 8191;
+
 // The greatest size of a part of a fraction.
 const GREATEST: u128 = 0x7fff_ffff_ffff_ffff_ffff_ffff_ffff_ffff;
 
@@ -139,7 +142,7 @@ pub(crate) fn item(word: &[u8]) -> Option<Item>
     let Some(value) = fraction(digits) else {
         return None;
     };
-    if index > 8191 {
+    if index > MOST_INDEX {
         return None;
     }
     if value.is_zero() {

@@ -14,6 +14,19 @@ use dc_frac::Frac;
 use sqlite_items::Items;
 use std::alloc::{AllocError, Global};
 
+// The atoms of a location, or the keeps of an entry or an edge.
+const MOST_LINES: usize = 1024;
+
+const MOST_LOCATIONS: usize = 128;
+
+const MOST_EDGES: usize = 512;
+
+const MOST_CASES: u128 = 64;
+
+const MOST_DEGREE: u128 = 3;
+
+const MOST_FACTORS: u128 = 3;
+
 // The claim.
 pub(crate) fn start(line: &[u8]) -> Option<Stage>
     ensures { Steps Stage.Start line.now result }
@@ -100,7 +113,7 @@ fn two_sizes(line: &[u8]) -> Option<(u8, u8)>
     let Some(degree) = natural(front) else {
         return None;
     };
-    if degree > 3 {
+    if degree > MOST_DEGREE {
         return None;
     }
     let Some(products) = number_behind(back, b" products ") else {
@@ -109,7 +122,7 @@ fn two_sizes(line: &[u8]) -> Option<(u8, u8)>
     if products < 1 {
         return None;
     }
-    if products > 3 {
+    if products > MOST_FACTORS {
         return None;
     }
     Some((degree as u8, products as u8))
@@ -157,7 +170,7 @@ pub(crate) fn cases(
     if n < 1 {
         return None;
     }
-    if n > 64 {
+    if n > MOST_CASES {
         return None;
     }
     Some(Stage::Heads(Head {
@@ -218,7 +231,7 @@ pub(crate) fn locations(
     ensures { IfOk result (λ o. Steps (Stage.Locations front done last) line.now o) }
 {
     if let Some(a) = atom_behind(alloc, line)? {
-        if last.len() >= 1024 {
+        if last.len() >= MOST_LINES {
             return Ok(None);
         }
         last.push(a)?;
@@ -226,7 +239,7 @@ pub(crate) fn locations(
     }
     let next = number_text(alloc, b"location ", done.len() + 1)?;
     if is(line, next.as_slice()) {
-        if done.len() + 1 >= 128 {
+        if done.len() + 1 >= MOST_LOCATIONS {
             return Ok(None);
         }
         done.push(last)?;
@@ -252,7 +265,7 @@ pub(crate) fn entries(
     ensures { IfOk result (λ o. Steps (Stage.Entries front families done last) line.now o) }
 {
     if let Some(s) = vector_behind(alloc, line, b"keep")? {
-        if last.len() >= 1024 {
+        if last.len() >= MOST_LINES {
             return Ok(None);
         }
         last.push(s)?;
@@ -311,7 +324,7 @@ pub(crate) fn edges(
     ensures { IfOk result (λ o. Steps (Stage.Edges front families entries done live last) line.now o) }
 {
     if let Some(s) = vector_behind(alloc, line, b"keep")? {
-        if last.len() >= 1024 {
+        if last.len() >= MOST_LINES {
             return Ok(None);
         }
         last.push(s)?;
@@ -319,7 +332,7 @@ pub(crate) fn edges(
     }
     let edge = number_text(alloc, b"edge ", done.len() + 1)?;
     if let Some(l) = shown_behind(alloc, line, edge.as_slice())? {
-        if done.len() + 1 >= 512 {
+        if done.len() + 1 >= MOST_EDGES {
             return Ok(None);
         }
         done.push(EdgeCert { live, keeps: last })?;

@@ -11,8 +11,8 @@ returns-in_default-strip c = refuse_colon c.args.word.now _ _ c.cut.ensures.fron
 pub returns-in_default-fraction : goal.returns-in_default-fraction
 returns-in_default-fraction c = refuse_value c.args.word.now _ _ _ c.cut.ensures.front c.cut.ensures.rest c.in-Some-strip.ensures c.in_default-fraction.ensures
 
-pub returns-then-index-gt8191 : goal.returns-then-index-gt8191
-returns-then-index-gt8191 c = refuse_high c.args.word.now _ _ _ c.cut.ensures.front c.cut.ensures.rest c.in-Some.ensures.0 c.in-Some.ensures.1 c.if-index-gt8191.true
+pub returns-then-index-gt-MOST_INDEX : goal.returns-then-index-gt-MOST_INDEX
+returns-then-index-gt-MOST_INDEX c = refuse_high c.args.word.now _ _ _ c.cut.ensures.front c.cut.ensures.rest c.in-Some.ensures.0 c.in-Some.ensures.1 c.if-index-gt-MOST_INDEX.true
 
 pub returns-then-is_zero : goal.returns-then-is_zero
 returns-then-is_zero c =
@@ -20,6 +20,6 @@ returns-then-is_zero c =
 
 pub returns : goal.returns
 returns c = (
-  record { low = c.if-index-gt8191.false; nonzero = sym c.if-is_zero.ensures; small = c.in-Some-fraction.ensures.0 },
+  record { low = c.if-index-gt-MOST_INDEX.false; nonzero = sym c.if-is_zero.ensures; small = c.in-Some-fraction.ensures.0 },
   item_is c.args.word.now _ _ _ c.in-Some.index c.in-Some-fraction.value _ refl c.cut.ensures.front c.cut.ensures.rest c.in-Some.ensures.1 c.in-Some-strip.ensures c.in-Some-fraction.ensures.1,
 )
