@@ -1,32 +1,11 @@
 //! Counts worked out by hand, and small problems over the dense tableau.
+use crate::tables::{at, problem};
 use dc_cycle::{EndFault, bases, solve_ended};
-use dc_lp::{Entry, Problem};
+use dc_lp::Problem;
 use dc_simplex::{Dense, Outcome};
-use std::alloc::{AllocError, Global};
+use std::alloc::Global;
 use std::process::Abort;
 use std::test::Fail;
-
-const fn at(row: usize, value: i128) -> Entry {
-    Entry { row, value }
-}
-
-fn problem(
-    alloc: Global,
-    columns: &[&[Entry]],
-    b: &[i128],
-    cost: &[i128],
-) -> Result<Problem, AllocError> {
-    let mut all = Vec::new(alloc);
-    for column in columns {
-        all.push(Vec::from_slice(alloc, column)?)?;
-    }
-    Ok(Problem {
-        rows: b.len(),
-        columns: all,
-        b: Vec::from_slice(alloc, b)?,
-        cost: Vec::from_slice(alloc, cost)?,
-    })
-}
 
 fn ended(rt: &impl Abort, alloc: Global, p: &Problem) -> Result<Outcome, EndFault> {
     assert!(rt; p.is_well_formed());

@@ -12,4 +12,6 @@ mod products;
 #[cfg(test)]
 mod solver;
 #[cfg(test)]
+mod tables;
+#[cfg(test)]
 mod templates;

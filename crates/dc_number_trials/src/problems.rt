@@ -1,31 +1,9 @@
 //! Small problems written out by hand, with a vector for each verdict.
+use crate::tables::{at, problem};
 use dc_frac::{Frac, MAX};
 use dc_lp::{Entry, Problem, Verdict, check_dual, check_primal, check_ray, check_refutation};
-use std::alloc::{AllocError, Global};
 use std::process::Abort;
 use std::test::Fail;
-
-const fn at(row: usize, value: i128) -> Entry {
-    Entry { row, value }
-}
-
-fn problem(
-    alloc: Global,
-    columns: &[&[Entry]],
-    b: &[i128],
-    cost: &[i128],
-) -> Result<Problem, AllocError> {
-    let mut all = Vec::new(alloc);
-    for column in columns {
-        all.push(Vec::from_slice(alloc, column)?)?;
-    }
-    Ok(Problem {
-        rows: b.len(),
-        columns: all,
-        b: Vec::from_slice(alloc, b)?,
-        cost: Vec::from_slice(alloc, cost)?,
-    })
-}
 
 fn primal(rt: &impl Abort, p: &Problem, x: &[Frac]) -> Verdict {
     assert!(rt; p.is_well_formed());

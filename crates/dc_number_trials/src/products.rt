@@ -2,6 +2,7 @@
 ghost use Rattle.std.specs.Prelude.{◌≤◌, length, unsigned_abs, IfOk};
 ghost use Rattle.dc_affine.specs.Atoms.{AllFit, IsAtom};
 
+use crate::tables::is;
 use dc_affine::Atom;
 use dc_handelman::{product_count, products};
 use dc_poly::Poly;
@@ -20,14 +21,6 @@ fn atom(alloc: Global, c0: &i64, coefs: &[i64], places: usize) -> Result<Atom, A
         c0: *c0,
         coefs: Items::from_vec(list),
     })
-}
-
-// Whether the terms are these coefficients and exponents, in this order.
-fn is(p: &Poly, table: &[(i128, &[u8])]) -> bool {
-    let terms = p.terms();
-    terms.len() == table.len()
-        && terms.iter().zip(table).all(|(term, row)| term.coef == row.0
-            && term.mono.exponents() == row.1)
 }
 
 fn are(list: &[Poly], table: &[&[(i128, &[u8])]]) -> bool {

@@ -1,33 +1,12 @@
 //! Small problems over the dense tableau. Expected answers were worked out by hand or, for the longer runs, by a table of fractions kept
 //! apart from this program.
+use crate::tables::{at, problem};
 use dc_frac::Frac;
 use dc_lp::{Entry, Problem};
 use dc_simplex::{Dense, Outcome, SolveFault, solve};
-use std::alloc::{AllocError, Global};
+use std::alloc::Global;
 use std::process::Abort;
 use std::test::Fail;
-
-const fn at(row: usize, value: i128) -> Entry {
-    Entry { row, value }
-}
-
-fn problem(
-    alloc: Global,
-    columns: &[&[Entry]],
-    b: &[i128],
-    cost: &[i128],
-) -> Result<Problem, AllocError> {
-    let mut all = Vec::new(alloc);
-    for column in columns {
-        all.push(Vec::from_slice(alloc, column)?)?;
-    }
-    Ok(Problem {
-        rows: b.len(),
-        columns: all,
-        b: Vec::from_slice(alloc, b)?,
-        cost: Vec::from_slice(alloc, cost)?,
-    })
-}
 
 fn solved(rt: &impl Abort, alloc: Global, p: &Problem, budget: u64) -> Result<Outcome, SolveFault> {
     assert!(rt; p.is_well_formed());

@@ -1,4 +1,5 @@
 //! Monomials of a template, and one at an updated state.
+use crate::tables::is;
 use dc_poly::{Mono, Poly};
 use dc_template::{monomials, template_column, unknowns};
 use std::alloc::Global;
@@ -11,14 +12,6 @@ fn are(list: &[Mono], table: &[&[u8]]) -> bool {
             .iter()
             .zip(table)
             .all(|(mono, row)| mono.exponents() == *row)
-}
-
-// Whether the terms are these coefficients and exponents, in this order.
-fn is(p: &Poly, table: &[(i128, &[u8])]) -> bool {
-    let terms = p.terms();
-    terms.len() == table.len()
-        && terms.iter().zip(table).all(|(term, row)| term.coef == row.0
-            && term.mono.exponents() == row.1)
 }
 
 #[test]
