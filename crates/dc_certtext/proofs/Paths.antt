@@ -2,7 +2,7 @@
 use Rattle.std.specs.Prelude.{◌≡◌, ℕ, suc, ◌+◌, ◌≤◌, ◌<◌, Bool, true, false, not, ltb, List, [], ◌∷◌, ◌++◌, map, length, codes, Some, None, refl}
 use Rattle.std.specs.List.{AllByRecursion}
 use Rattle.std.proofs.Common.{sym, ◌∙◌, ap, subst, arith, append_assoc, inl, inr}
-use Rattle.std.proofs.lemmas.List.{append-nil}
+use Rattle.std.proofs.lemmas.List.{append-nil, length-append}
 use Rattle.std.proofs.lemmas.Bool.{ltb-true, ltb-false}
 use Rattle.dc_affine.specs.declared.atom.Atom.{Atom}
 use Rattle.dc_affine.specs.Atoms.{IsAtom}
@@ -58,17 +58,13 @@ not-ltb m n h = by (ltb m n) refl
     by false e = refl
 
 -- ---- lists of atoms and keeps
-length-join : {A : Type 0} (xs ys : List A) → length (xs ++ ys) ≡ length xs + length ys
-length-join [] ys = (let q : length ys ≡ 0 + length ys = omega arith in q)
-length-join (x ∷ xs) ys = (let r = length-join xs ys in omega arith)
-
 atoms_run : (f : Front) (done : List (List Atom)) (last more_atoms : List Atom) → length last + length more_atoms ≤ 1024 → AllByRecursion (IsAtom 10) more_atoms
     → Runs (Locations f done last) (map atom_line more_atoms) (Locations f done (last ++ more_atoms))
 atoms_run f done last [] h k = subst (λ l. Runs (Locations f done last) [] (Locations f done l)) (sym (append-nil last)) (stop (Locations f done last))
 atoms_run f done last (a ∷ ats) h k =
     more (Locations f done last) (atom_line a) (Locations f done (last ++ a ∷ [])) (map atom_line ats) (Locations f done (last ++ a ∷ ats)) (inl (below-ltb (length last) 1024 (omega arith), (a, k.0, refl, refl)))
     (subst (λ l. Runs (Locations f done (last ++ a ∷ [])) (map atom_line ats) (Locations f done l)) (append_assoc last (a ∷ []) ats)
-    (atoms_run f done (last ++ a ∷ []) ats (let x = length-join last (a ∷ []) in omega arith) k.1))
+    (atoms_run f done (last ++ a ∷ []) ats (let x = length-append last (a ∷ []) in omega arith) k.1))
 
 -- from a location that is closed, over the others
 locations_run : (f : Front) (done : List (List Atom)) (last : List Atom) (fam : List (List Atom)) → suc (length done) + length fam ≤ 128 → AllByRecursion AreAtoms fam
@@ -92,7 +88,7 @@ entry_keeps_run f fam done last [] h k = subst (λ l. Runs (Entries f fam done l
 entry_keeps_run f fam done last (s ∷ ss) h k =
     more (Entries f fam done last) (vector_line (codes "keep") s) (Entries f fam done (last ++ s ∷ [])) (keep_lines ss) (Entries f fam done (last ++ s ∷ ss)) (inl (below-ltb (length last) 1024 (omega arith), (s, k.0, refl, refl)))
     (subst (λ l. Runs (Entries f fam done (last ++ s ∷ [])) (keep_lines ss) (Entries f fam done l)) (append_assoc last (s ∷ []) ss)
-    (entry_keeps_run f fam done (last ++ s ∷ []) ss (let x = length-join last (s ∷ []) in omega arith) k.1))
+    (entry_keeps_run f fam done (last ++ s ∷ []) ss (let x = length-append last (s ∷ []) in omega arith) k.1))
 
 entries_run : (f : Front) (fam : List (List Atom)) (done : List (List Sparse)) (last : List Sparse) (ents : List (List Sparse)) → suc (length done) + length ents ≤ f.head.cases → AllByRecursion AreKeeps ents
     → (p : List (List Sparse)) × (x : List Sparse) × (p ++ x ∷ [] ≡ done ++ last ∷ ents) × Runs (Entries f fam done last) (groups (entry_lines f.head.version) (suc (length done)) ents) (Entries f fam p x)
@@ -116,7 +112,7 @@ edge_keeps_run f fam ents done live last (s ∷ ss) h k =
     more (Edges f fam ents done live last) (vector_line (codes "keep") s) (Edges f fam ents done live (last ++ s ∷ [])) (keep_lines ss) (Edges f fam ents done live (last ++ s ∷ ss))
     (inl (below-ltb (length last) 1024 (omega arith), (s, k.0, refl, refl)))
     (subst (λ l. Runs (Edges f fam ents done live (last ++ s ∷ [])) (keep_lines ss) (Edges f fam ents done live l)) (append_assoc last (s ∷ []) ss)
-    (edge_keeps_run f fam ents done live (last ++ s ∷ []) ss (let x = length-join last (s ∷ []) in omega arith) k.1))
+    (edge_keeps_run f fam ents done live (last ++ s ∷ []) ss (let x = length-append last (s ∷ []) in omega arith) k.1))
 
 -- over the other edges and the exit
 edges_run : (f : Front) (fam : List (List Atom)) (ents : List (List Sparse)) (done : List EdgeCert) (live : Liveness) (last : List Sparse) (edges : List EdgeCert) (l : Liveness) → suc (length done) + length edges ≤ 512

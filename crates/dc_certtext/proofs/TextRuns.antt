@@ -21,6 +21,7 @@ use Rattle.dc_certtext.proofs.Kept.{kept, length-more}
 use Rattle.dc_certtext.proofs.Paths.{Runs, runs-append, certificate_run}
 use Rattle.dc_certtext.proofs.Completes.{completes}
 use Rattle.dc_certtext.proofs.Feeds.{line-lacks}
+use Rattle.dc_certtext.proofs.Lines.{ended-append}
 
 abbrev pub NoFeeds : List Bytes → Type 0
 NoFeeds ls = AllByRecursion (Lacks 10) ls
@@ -46,10 +47,6 @@ split_run s [] ys t r = (s, refl, r)
 split_run s (x ∷ xs) ys t r = let q = split_run r.0 xs ys t r.2 in (q.0, (r.0, r.1, q.1), q.2)
 
 -- ---- lines in a text
-ended-append : (xs ys : List Bytes) → ended (xs ++ ys) ≡ ended xs ++ ended ys
-ended-append [] ys = refl
-ended-append (x ∷ xs) ys = ap (λ l. x ++ 10 ∷ l) (ended-append xs ys) ∙ sym (append_assoc x (10 ∷ ended xs) (ended ys))
-
 ended-some : (y r : Bytes) → ¬ ([] ≡ y ++ 10 ∷ r)
 ended-some [] r e = cc
 ended-some (x ∷ y) r e = cc
