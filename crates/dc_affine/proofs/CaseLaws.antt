@@ -18,11 +18,11 @@ use Rattle.dc_syntax.proofs.Inductions.{Cond-induction}
 use Rattle.dc_poly.specs.Terms.{Exponents, TermList, Polynomial, polynomial, value, coef, degree_of, Canonical, Places}
 use Rattle.dc_poly.specs.Sums.{plus, negated, zeros, constant}
 use Rattle.dc_poly.specs.Affine.{units}
-use Rattle.dc_poly.specs.Values.{value-plus, coef-plus, plus_is, Canonical-plus}
-use Rattle.dc_poly.specs.Same.{value-negated, coef-negated}
-use Rattle.dc_poly.specs.Closed.{Canonical-negated}
-use Rattle.dc_poly.specs.Degrees.{degree-negated}
-use Rattle.dc_poly.specs.Padded.{Places-plus, Places-negated}
+use Rattle.dc_poly.proofs.Values.{value-plus, coef-plus, plus_is, Canonical-plus}
+use Rattle.dc_poly.proofs.Same.{value-negated, coef-negated}
+use Rattle.dc_poly.proofs.Closed.{Canonical-negated}
+use Rattle.dc_poly.proofs.Degrees.{degree-negated}
+use Rattle.dc_poly.proofs.Padded.{Places-plus, Places-negated}
 use Rattle.dc_affine.specs.declared.atom.Atom.{Atom}
 use Rattle.dc_affine.specs.declared.form.FormFault.{FormFault}
 use Rattle.dc_affine.specs.declared.form.FormFault.TheVariants.{NotAffine, CoefficientRange}

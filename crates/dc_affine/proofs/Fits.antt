@@ -5,7 +5,7 @@ use Rattle.std.proofs.lemmas.Bool.{leb-true}
 use Rattle.std.specs.Int.{w64, w128}
 use Rattle.std.proofs.lemmas.Int.{ints, fits_signed_from_abs}
 use Rattle.dc_poly.specs.Terms.{Exponents, TermList, same_mono, coef, Canonical}
-use Rattle.dc_poly.specs.Canon.{coef_ahead, same_mono_is}
+use Rattle.dc_poly.proofs.Canon.{coef_ahead, same_mono_is}
 use Rattle.dc_poly.specs.Sums.{negated}
 use Rattle.dc_poly.specs.Terms.{Ahead}
 use Rattle.dc_affine.specs.Forms.{most, coefs_fit}

@@ -13,10 +13,10 @@ use Rattle.dc_syntax.specs.Trees.{EachExpr}
 use Rattle.dc_syntax.proofs.Inductions.{Expr-induction}
 use Rattle.dc_poly.specs.Terms.{TermList, value, Canonical, Places, Polynomial, polynomial}
 use Rattle.dc_poly.specs.Sums.{plus, negated, times, constant_of, variable_of, constant, variable, sum_of, negation_of, product_of}
-use Rattle.dc_poly.specs.Values.{value-plus, value-times, value-constant, value-variable, Canonical-plus, Canonical-times, Canonical-constant}
-use Rattle.dc_poly.specs.Same.{value-negated}
-use Rattle.dc_poly.specs.Closed.{Canonical-negated}
-use Rattle.dc_poly.specs.Padded.{Places-constant, Places-variable, Places-plus, Places-negated, Places-times}
+use Rattle.dc_poly.proofs.Values.{value-plus, value-times, value-constant, value-variable, Canonical-plus, Canonical-times, Canonical-constant}
+use Rattle.dc_poly.proofs.Same.{value-negated}
+use Rattle.dc_poly.proofs.Closed.{Canonical-negated}
+use Rattle.dc_poly.proofs.Padded.{Places-constant, Places-variable, Places-plus, Places-negated, Places-times}
 use Rattle.dc_affine.specs.declared.form.FormFault.{FormFault}
 use Rattle.dc_affine.specs.Forms.{Formed, judged, form_step, formed, form_of, fault_of, own_fault, below_step, is_below}
 

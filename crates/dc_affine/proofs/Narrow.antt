@@ -6,8 +6,8 @@ use Rattle.std.proofs.lemmas.Bool.{leb-true}
 use Rattle.dc_poly.specs.Terms.{Exponents, TermList, degree, degree_of, Greater, Before, lower, level, Ahead, Canonical, Places, weight, Polynomial, IsPolynomial}
 use Rattle.dc_poly.specs.Sums.{negation_of}
 use Rattle.dc_poly.specs.Conditions.{CanAdd, CanMul}
-use Rattle.dc_poly.specs.Sizes.{mul_both, power_more, weight-negated}
-use Rattle.dc_poly.specs.Degrees.{degree-times}
+use Rattle.dc_poly.proofs.Sizes.{mul_both, power_more, weight-negated}
+use Rattle.dc_poly.proofs.Degrees.{degree-times}
 use Rattle.dc_affine.specs.Forms.{most, coefs_fit, IsNarrow}
 use Rattle.dc_affine.proofs.FormLaws.{and_both}
 

@@ -5,7 +5,8 @@ use Rattle.dc_math.specs.WholeRing.{ring, reads, read_nat, same_form}
 use Rattle.dc_math.specs.WholeVectors.{dot_ℤ}
 use Rattle.dc_poly.specs.Terms.{Exponents, TermList, coef, value, degree_of, Places}
 use Rattle.dc_poly.specs.Sums.{zeros, unit_at}
-use Rattle.dc_poly.specs.Affine.{units, along, Affine, affine_value}
+use Rattle.dc_poly.specs.Affine.{units, along, Affine}
+use Rattle.dc_poly.proofs.AffineValue.{affine_value}
 
 abbrev after_zero : Exponents → Exponents
 after_zero u = 0 ∷ u

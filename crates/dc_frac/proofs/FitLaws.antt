@@ -10,7 +10,7 @@ use Rattle.dc_frac.specs.declared.Frac.{Frac}
 use Rattle.dc_frac.specs.Fits.{IsSmall, is_small, fits, parts_fit, rule_fits, sum_fits, sum_total, sum_num, sum_den, product_fits}
 use Rattle.dc_frac.specs.Parts.{SumFits, ProductFits, product_num, product_den}
 use Rattle.dc_frac.specs.Value.{fraction, value}
-use Rattle.dc_frac.specs.ValueLaws.{lowest-value}
+use Rattle.dc_frac.proofs.ValueLaws.{lowest-value}
 use Rattle.dc_frac.proofs.Values.{Parts}
 use Rattle.dc_frac.proofs.SumLaws.{sum_parts}
 use Rattle.dc_frac.proofs.ProductLaws.{product_parts}

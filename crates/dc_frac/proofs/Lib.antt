@@ -7,3 +7,4 @@ pub mod FitLaws
 pub mod Sizes
 pub mod Orders
 pub mod PairLaws
+pub mod ValueLaws

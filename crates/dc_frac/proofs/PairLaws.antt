@@ -8,7 +8,7 @@ use Rattle.dc_math.specs.RationalField.{+ℚ-zero, +ℚ-neg_ℚ, *ℚ-one}
 use Rattle.dc_math.specs.Lowest.{ratio-lowest, lowest_reduced, lowest-of_reduced}
 use Rattle.dc_math.specs.Floor.{floor-≤ℚ, <ℚ-floor}
 use Rattle.dc_math.specs.Gcd.{gcd_is}
-use Rattle.dc_frac.specs.ValueLaws.{lowest-value}
+use Rattle.dc_frac.proofs.ValueLaws.{lowest-value}
 use Rattle.dc_frac.specs.Laws.{Equality, Sums, Products, Order, Numbers, LowestTerms, Floors, CommonDivisors}
 
 zero_is : ratio (fraction_of (pos 0)) ≡ of_ℤ (pos 0)

@@ -1,5 +1,4 @@
 pub mod Fits
 pub mod Parts
 pub mod Value
-pub mod ValueLaws
 pub mod Laws

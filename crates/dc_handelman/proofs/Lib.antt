@@ -1,1 +1,5 @@
 pub mod Walks
+pub mod Counts
+pub mod Listed
+pub mod Orders
+pub mod Values

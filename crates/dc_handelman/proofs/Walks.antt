@@ -10,8 +10,8 @@ use Rattle.dc_affine.specs.declared.atom.Atom.{Atom}
 use Rattle.dc_affine.specs.Atoms.{AllFit, IsAtom, AllAtoms}
 use Rattle.dc_handelman.specs.Choices.{Choice, of_size, below, choices_of}
 use Rattle.dc_handelman.specs.Products.{linear_of, form_of, factor_at, times_choice, product_at, products_of, IsProduct}
-use Rattle.dc_handelman.specs.Counts.{higher, no_factors, count_small}
-use Rattle.dc_handelman.specs.Values.{can_scale, can_add_rest, can_add_constant, can_times, is_times, is_more, is_one, factor_is, all_factors, all_products}
+use Rattle.dc_handelman.proofs.Counts.{higher, no_factors, count_small}
+use Rattle.dc_handelman.proofs.Values.{can_scale, can_add_rest, can_add_constant, can_times, is_times, is_more, is_one, factor_is, all_factors, all_products}
 
 -- ---- the count
 pub count_start : (n : ℕ) → 1 ≡ length (choices_of n 0)

@@ -12,7 +12,7 @@ use Rattle.dc_math.specs.Sums.{sum_ℚ_same}
 use Rattle.dc_math.specs.Tests.{is_negative, is_positive, eq_ℚ, le_ℚ-true, le_ℚ_true, lt_ℚ_true, eq_ℚ_true}
 use Rattle.dc_frac.specs.declared.Frac.{Frac}
 use Rattle.dc_frac.specs.Value.{value}
-use Rattle.dc_frac.specs.ValueLaws.{eq-value}
+use Rattle.dc_frac.proofs.ValueLaws.{eq-value}
 use Rattle.dc_lp.specs.declared.Problem.{Problem}
 use Rattle.dc_lp.specs.declared.Verdict.{Verdict}
 use Rattle.dc_lp.specs.declared.Verdict.TheVariants.{Holds, Fails, Past128}

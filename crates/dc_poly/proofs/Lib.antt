@@ -4,3 +4,15 @@ pub mod Products
 pub mod Polys
 pub mod Substitution
 pub mod Small
+pub mod Canon
+pub mod Closed
+pub mod Degrees
+pub mod Padded
+pub mod Same
+pub mod Sizes
+pub mod Unique
+pub mod Values
+pub mod One
+pub mod Vanish
+pub mod AffineValue
+pub mod Graded

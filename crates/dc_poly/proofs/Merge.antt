@@ -7,10 +7,11 @@ use Rattle.std.specs.declared.cmp.Ordering.{Ordering}
 use Rattle.std.specs.declared.cmp.Ordering.TheVariants.{Less, Equal, Greater}
 use Rattle.dc_poly.specs.declared.monomial.Term.{Term}
 use Rattle.dc_poly.specs.Terms.{Exponents, TermList, term, same_mono, coef, Before, Ahead, Canonical}
-use Rattle.dc_poly.specs.Same.{coef-++}
-use Rattle.dc_poly.specs.Order.{Ahead-more, graded, Told, graded_told}
+use Rattle.dc_poly.proofs.Same.{coef-++}
+use Rattle.dc_poly.proofs.Graded.{Ahead-more, graded_told}
+use Rattle.dc_poly.specs.Order.{graded, Told}
 use Rattle.dc_poly.specs.Sums.{plus}
-use Rattle.dc_poly.specs.Values.{plus_is}
+use Rattle.dc_poly.proofs.Values.{plus_is}
 
 -- the loop's invariant: what is out stands before both rests, and the coefficients add up
 pub record Merging (p q out left right : TermList) : Type 0 where

@@ -9,7 +9,8 @@ use Rattle.std.specs.Ordering.{MatchOrdering, nat_cmp}
 use Rattle.std.proofs.lemmas.Cmp.{ranked}
 use Rattle.dc_poly.specs.Terms as terms
 use Rattle.dc_poly.specs.Terms.{degree, Before, lower, level}
-use Rattle.dc_poly.specs.Order.{Before-not, Before-trans, Order, before, same, after, order, graded, standing, Told}
+use Rattle.dc_poly.proofs.Graded.{Before-not, Before-trans, graded_told}
+use Rattle.dc_poly.specs.Order.{graded, Told}
 use Rattle.dc_poly.specs.Sums.{times_mono, zeros, unit_at}
 
 -- ---- degrees
@@ -28,22 +29,25 @@ exponent_low zero (e ∷ m) h = omega arith
 exponent_low (suc i) (e ∷ m) h = let k = exponent_low i m (omega arith) in omega arith
 
 -- ---- graded order
-pub standing_is : (m k : List ℕ) (o : Order m k) (r : Ordering) → Told m k r → standing o ≡ r
-standing_is m k (before h) Less t = refl
-standing_is m k (before h) Equal t = absurd (Before-not k (subst (λ x. Before x k) t h))
-standing_is m k (before h) Greater t = absurd (Before-not m (Before-trans m k m h t))
-standing_is m k (same e) Less t = absurd (Before-not k (subst (λ x. Before x k) e t))
-standing_is m k (same e) Equal t = refl
-standing_is m k (same e) Greater t = absurd (Before-not k (subst (λ x. Before k x) e t))
-standing_is m k (after h) Less t = absurd (Before-not m (Before-trans m k m t h))
-standing_is m k (after h) Equal t = absurd (Before-not k (subst (λ x. Before k x) t h))
-standing_is m k (after h) Greater t = refl
+one_told : (m k : List ℕ) (a b : Ordering) → Told m k a → Told m k b → a ≡ b
+one_told m k Less Less h t = refl
+one_told m k Less Equal h t = absurd (Before-not k (subst (λ x. Before x k) t h))
+one_told m k Less Greater h t = absurd (Before-not m (Before-trans m k m h t))
+one_told m k Equal Less h t = absurd (Before-not k (subst (λ x. Before x k) h t))
+one_told m k Equal Equal h t = refl
+one_told m k Equal Greater h t = absurd (Before-not k (subst (λ x. Before k x) h t))
+one_told m k Greater Less h t = absurd (Before-not m (Before-trans m k m t h))
+one_told m k Greater Equal h t = absurd (Before-not k (subst (λ x. Before k x) t h))
+one_told m k Greater Greater h t = refl
+
+graded_is : (m k : List ℕ) (r : Ordering) → Told m k r → graded m k ≡ r
+graded_is m k r t = one_told m k (graded m k) r (graded_told m k) t
 
 pub graded_lower : (m k : List ℕ) → degree m < degree k → graded m k ≡ Less
-graded_lower m k h = standing_is m k (order m k) Less (lower h)
+graded_lower m k h = graded_is m k Less (lower h)
 
 pub graded_higher : (m k : List ℕ) → degree k < degree m → graded m k ≡ Greater
-graded_higher m k h = standing_is m k (order m k) Greater (lower h)
+graded_higher m k h = graded_is m k Greater (lower h)
 
 greater_at : (i : ℕ) (a b : List ℕ) → i < length a → i < length b → take i a ≡ take i b → get_or b i 0 < get_or a i 0 → terms.Greater a b
 greater_at i [] b h k e l = absurd (omega arith)
@@ -52,10 +56,10 @@ greater_at zero (x ∷ a) (y ∷ b) h k e l = inl l
 greater_at (suc i) (x ∷ a) (y ∷ b) h k e l = inr ((let q : x ≡ y = cc in q), greater_at i a b (omega arith) (omega arith) (let q : take i a ≡ take i b = cc in q) l)
 
 pub graded_first : (i : ℕ) (a b : List ℕ) → degree a ≡ degree b → i < length a → i < length b → take i a ≡ take i b → get_or b i 0 < get_or a i 0 → graded a b ≡ Less
-graded_first i a b d h l e g = standing_is a b (order a b) Less (level d (greater_at i a b h l e g))
+graded_first i a b d h l e g = graded_is a b Less (level d (greater_at i a b h l e g))
 
 pub graded_second : (i : ℕ) (a b : List ℕ) → degree a ≡ degree b → i < length a → i < length b → take i a ≡ take i b → get_or a i 0 < get_or b i 0 → graded a b ≡ Greater
-graded_second i a b d h l e g = standing_is a b (order a b) Greater (level (sym d) (greater_at i b a l h (sym e) g))
+graded_second i a b d h l e g = graded_is a b Greater (level (sym d) (greater_at i b a l h (sym e) g))
 
 greater_end : (a b : List ℕ) → length a < length b → take (length a) a ≡ take (length a) b → terms.Greater a b
 greater_end [] [] h e = absurd (omega arith)
@@ -64,7 +68,7 @@ greater_end (x ∷ a) [] h e = absurd (omega arith)
 greater_end (x ∷ a) (y ∷ b) h e = inr ((let q : x ≡ y = cc in q), greater_end a b (omega arith) (let q : take (length a) a ≡ take (length a) b = cc in q))
 
 pub graded_end : (a b : List ℕ) (r : Ordering) → degree a ≡ degree b → take (min (length a) (length b)) a ≡ take (min (length a) (length b)) b → r ≡ nat_cmp (length a) (length b) → r ≡ graded a b
-graded_end a b r d e h = sym (standing_is a b (order a b) r (told r (ranked (length a) (length b) r h)))
+graded_end a b r d e h = sym (graded_is a b r (told r (ranked (length a) (length b) r h)))
   where
     upto : (n : ℕ) → n ≡ min (length a) (length b) → take n a ≡ take n b
     upto n q = subst (λ k. take k a ≡ take k b) (sym q) e

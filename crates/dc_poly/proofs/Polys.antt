@@ -6,10 +6,10 @@ use Rattle.std.proofs.lemmas.Int.{ints}
 use Rattle.std.proofs.lemmas.List.{append_assoc, append-nil, drop_more, drop_all}
 use Rattle.dc_poly.specs.declared.monomial.Term.{Term}
 use Rattle.dc_poly.specs.Terms.{Exponents, TermList, term, degree, Before, lower, level, Ahead, Canonical, same_mono, coef, Places, degree_of, largest, Polynomial, polynomial, IsPolynomial}
-use Rattle.dc_poly.specs.Canon.{same_mono_refl, same_mono_is, coef_ahead}
+use Rattle.dc_poly.proofs.Canon.{same_mono_refl, same_mono_is, coef_ahead}
 use Rattle.dc_poly.specs.Sums.{plus, negated, times, composed, places_of, sum_of, negation_of, product_of, composition_of}
 use Rattle.dc_poly.specs.Conditions.{CanSubst}
-use Rattle.dc_poly.specs.Closed.{is_composition}
+use Rattle.dc_poly.proofs.Closed.{is_composition}
 use Rattle.dc_poly.proofs.Products.{fits}
 
 -- ---- results by their terms

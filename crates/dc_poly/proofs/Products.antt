@@ -9,10 +9,10 @@ use Rattle.dc_poly.specs.declared.monomial.Term.{Term}
 use Rattle.dc_poly.specs.Terms.{Exponents, TermList, term, degree, Greater, Before, lower, level, Ahead, Canonical, Places, degree_of, weight, largest}
 use Rattle.dc_poly.specs.Sums.{plus, times_mono, shifted, times, times_power}
 use Rattle.dc_poly.specs.Conditions.{ArePadded}
-use Rattle.dc_poly.specs.Values.{Canonical-times}
-use Rattle.dc_poly.specs.Padded.{Places-times_power}
-use Rattle.dc_poly.specs.Sizes.{weight-times, weight-shifted, weight-times_power, mul_both}
-use Rattle.dc_poly.specs.Degrees.{degree-times_mono, degree-times_power}
+use Rattle.dc_poly.proofs.Values.{Canonical-times}
+use Rattle.dc_poly.proofs.Padded.{Places-times_power}
+use Rattle.dc_poly.proofs.Sizes.{weight-times, weight-shifted, weight-times_power, mul_both}
+use Rattle.dc_poly.proofs.Degrees.{degree-times_mono, degree-times_power}
 
 -- ---- by index
 pub size_at : (i : ℕ) (p : TermList) (a : Term) → i < length p → a ≡ get_or p i a → unsigned_abs a.coef + weight (drop (i + 1) p) ≡ weight (drop i p)

@@ -4,8 +4,8 @@ use Rattle.std.proofs.Common.{sym, arith}
 use Rattle.dc_poly.specs.declared.monomial.Term.{Term}
 use Rattle.dc_poly.specs.Terms.{TermList, degree_of, weight, largest, Polynomial}
 use Rattle.dc_poly.specs.Conditions.{CanMul, CanSubst}
-use Rattle.dc_poly.specs.Sizes.{composed_weight_light, power_more, mul_both}
-use Rattle.dc_poly.specs.Degrees.{degree-times, degree-composed}
+use Rattle.dc_poly.proofs.Sizes.{composed_weight_light, power_more, mul_both}
+use Rattle.dc_poly.proofs.Degrees.{degree-times, degree-composed}
 use Rattle.dc_poly.proofs.Products.{size_at}
 
 -- a sum over the terms

@@ -9,10 +9,10 @@ use Rattle.dc_poly.specs.declared.monomial.Term.{Term}
 use Rattle.dc_poly.specs.Terms.{Exponents, TermList, degree, Canonical, Places, degree_of, weight, largest, Polynomial, polynomial, IsPolynomial}
 use Rattle.dc_poly.specs.Sums.{plus, times_power, first_of, rest_of, term_at, composed, constant_of}
 use Rattle.dc_poly.specs.Conditions.{ArePadded, HavePlaces, product_weight, composed_weight}
-use Rattle.dc_poly.specs.Values.{Canonical-constant, Canonical-composed}
-use Rattle.dc_poly.specs.Padded.{Places-constant, Places-times_power, Places-plus}
-use Rattle.dc_poly.specs.Degrees.{degree-constant, degree-times_power}
-use Rattle.dc_poly.specs.Sizes.{weight-term_at, weight-composed, mul_both}
+use Rattle.dc_poly.proofs.Values.{Canonical-constant, Canonical-composed}
+use Rattle.dc_poly.proofs.Padded.{Places-constant, Places-times_power, Places-plus}
+use Rattle.dc_poly.proofs.Degrees.{degree-constant, degree-times_power}
+use Rattle.dc_poly.proofs.Sizes.{weight-term_at, weight-composed, mul_both}
 use Rattle.dc_poly.proofs.Products.{Canonical-times_power}
 
 pub Canonical-term_at : (n : ℕ) (c : ℤ) (m : Exponents) (vs : List Polynomial) → Canonical (term_at n c m vs)

@@ -1,9 +1,6 @@
--- A polynomial of degree at most 1 is its constant and one coefficient for each place.
-use Rattle.std.specs.Prelude.{◌≡◌, ℕ, zero, suc, ◌≤◌, true, cond, List, [], ◌∷◌, map, length, ℤ, pos, ◌+ℤ◌, ◌*ℤ◌, refl}
-use Rattle.std.proofs.Common.{sym, ◌∙◌, ap, ap₂, arith}
-use Rattle.std.proofs.lemmas.Int.{ints}
-use Rattle.dc_math.specs.WholeRing.{ring, reads, read_nat, same_form}
-use Rattle.dc_poly.specs.Terms.{Exponents, TermList, front, others, mono_value, value, same_mono, coef, degree}
+-- A polynomial of degree at most 1 has a constant and one coefficient for each place.
+use Rattle.std.specs.Prelude.{◌≡◌, ℕ, zero, suc, ◌≤◌, List, [], ◌∷◌, map, length, ℤ, pos, ◌+ℤ◌, ◌*ℤ◌}
+use Rattle.dc_poly.specs.Terms.{Exponents, TermList, front, others, degree}
 use Rattle.dc_poly.specs.Sums.{zeros}
 
 -- the variables, by place
@@ -19,63 +16,3 @@ along f (u ∷ us) s = f u *ℤ front s +ℤ along f us (others s)
 abbrev pub Affine : ℕ → TermList → Type 0
 Affine n [] = Unit {0}
 Affine n (t ∷ p) = (length t.mono ≡ n) × (degree t.mono ≤ 1) × Affine n p
-
-along-map : (f : Exponents → ℤ) (us : List Exponents) (s : List ℤ) → along f (map (λ u. 0 ∷ u) us) s ≡ along (λ u. f (0 ∷ u)) us s
-along-map f [] s = refl
-along-map f (u ∷ us) s = ap (λ y. f (0 ∷ u) *ℤ front s +ℤ y) (along-map f us (others s))
-
-along-add : (f g : Exponents → ℤ) (us : List Exponents) (s : List ℤ) → along (λ u. f u +ℤ g u) us s ≡ along f us s +ℤ along g us s
-along-add f g [] s = refl
-along-add f g (u ∷ us) s = shape (f u) (g u) (front s) _ _ _ (along-add f g us (others s))
-  where
-    shape : (a b x y z w : ℤ) → w ≡ y +ℤ z → (a +ℤ b) *ℤ x +ℤ w ≡ (a *ℤ x +ℤ y) +ℤ (b *ℤ x +ℤ z)
-    shape a b x y z w e = rw e (ring (a ∷ b ∷ x ∷ y ∷ z ∷ []) (λ ρ i j k l m. simp (i, j, k, l, m, reads) (same_form _ _ _ refl)))
-
-along-zero : (us : List Exponents) (s : List ℤ) → along (λ u. pos 0) us s ≡ pos 0
-along-zero [] s = refl
-along-zero (u ∷ us) s = shape (front s) _ (along-zero us (others s))
-  where
-    shape : (x y : ℤ) → y ≡ pos 0 → pos 0 *ℤ x +ℤ y ≡ pos 0
-    shape x y e = rw e (ring (x ∷ []) (λ ρ i. simp (i, read_nat ρ, reads) (same_form _ _ _ refl)))
-
--- one term
-flat : (n : ℕ) (m : Exponents) → length m ≡ n → degree m ≡ 0 → (same_mono m (zeros n) ≡ true) × ((s : List ℤ) → mono_value m s ≡ pos 1)
-flat zero [] l d = (refl, λ s. refl)
-flat zero (e ∷ m) l d = absurd (omega arith)
-flat (suc n) [] l d = absurd (omega arith)
-flat (suc n) (zero ∷ m) l d = let r = flat n m (omega arith) (omega arith) in (r.0, λ s. rw (r.1 (others s)) refl)
-flat (suc n) (suc e ∷ m) l d = absurd (omega arith)
-
-one_term : (n : ℕ) (m : Exponents) (c : ℤ) (s : List ℤ) → length m ≡ n → degree m ≤ 1 → c *ℤ mono_value m s ≡ cond (same_mono m (zeros n)) c (pos 0) +ℤ along (λ u. cond (same_mono m u) c (pos 0)) (units n) s
-one_term zero [] c s l d = ring (c ∷ []) (λ ρ i. simp (i, read_nat ρ, reads) (same_form _ _ _ refl))
-one_term zero (e ∷ m) c s l d = absurd (omega arith)
-one_term (suc n) [] c s l d = absurd (omega arith)
-one_term (suc n) (zero ∷ m) c s l d =
-    shape c (front s) (mono_value m (others s)) _ _ (one_term n m c (others s) (omega arith) (omega arith))
-    ∙ ap (λ y. cond (same_mono m (zeros n)) c (pos 0) +ℤ (pos 0 *ℤ front s +ℤ y)) (sym (along-map (λ u. cond (same_mono (0 ∷ m) u) c (pos 0)) (units n) (others s)))
-  where
-    shape : (c x v y z : ℤ) → c *ℤ v ≡ y +ℤ z → c *ℤ (pos 1 *ℤ v) ≡ y +ℤ (pos 0 *ℤ x +ℤ z)
-    shape c x v y z e = ring (c ∷ v ∷ []) (λ ρ i j. simp (i, j, read_nat ρ, reads) (same_form _ _ _ refl)) ∙ e ∙ ring (x ∷ y ∷ z ∷ []) (λ ρ i j k. simp (i, j, k, read_nat ρ, reads) (same_form _ _ _ refl))
-one_term (suc n) (suc zero ∷ m) c s l d =
-    let r = flat n m (omega arith) (omega arith) in
-    shape c (front s) _ _ (r.1 (others s)) (along-zero (units n) (others s))
-    ∙ ap₂ (λ b y. pos 0 +ℤ (cond b c (pos 0) *ℤ front s +ℤ y)) (sym r.0) (sym (along-map (λ u. cond (same_mono (1 ∷ m) u) c (pos 0)) (units n) (others s)))
-  where
-    shape : (c x v z : ℤ) → v ≡ pos 1 → z ≡ pos 0 → c *ℤ ((x *ℤ pos 1) *ℤ v) ≡ pos 0 +ℤ (c *ℤ x +ℤ z)
-    shape c x v z e f = rw (e, f) (ring (c ∷ x ∷ []) (λ ρ i j. simp (i, j, read_nat ρ, reads) (same_form _ _ _ refl)))
-one_term (suc n) (suc (suc e) ∷ m) c s l d = absurd (omega arith)
-
--- the value by constant and coefficients, which an atom has
-pub affine_value : (n : ℕ) (p : TermList) (s : List ℤ) → Affine n p → value p s ≡ coef p (zeros n) +ℤ along (coef p) (units n) s
-affine_value n [] s h = sym (along-zero (units n) s) ∙ zero-add _
-  where
-    zero-add : (x : ℤ) → x ≡ pos 0 +ℤ x
-    zero-add x = omega (arith, ints)
-affine_value n (t ∷ p) s h =
-    let a = one_term n t.mono t.coef s h.0 h.1 in
-    let b = affine_value n p s h.2 in
-    let d = along-add (λ u. cond (same_mono t.mono u) t.coef (pos 0)) (coef p) (units n) s in
-    sums _ _ (cond (same_mono t.mono (zeros n)) t.coef (pos 0)) (coef p (zeros n)) _ (along (λ u. cond (same_mono t.mono u) t.coef (pos 0)) (units n) s) (along (coef p) (units n) s) a b d
-  where
-    sums : (v w x y z k l : ℤ) → v ≡ x +ℤ k → w ≡ y +ℤ l → z ≡ k +ℤ l → v +ℤ w ≡ (x +ℤ y) +ℤ z
-    sums v w x y z k l e f g = omega (arith, ints)

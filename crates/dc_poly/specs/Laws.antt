@@ -3,7 +3,7 @@ use Rattle.std.specs.Prelude.{◌≡◌, ℕ, List, length, ℤ, pos, ◌+ℤ◌
 use Rattle.dc_poly.specs.Terms.{Exponents, TermList, value, coef, Before, Polynomial, IsPolynomial}
 use Rattle.dc_poly.specs.Order.{graded, Told}
 use Rattle.dc_poly.specs.Sums.{plus}
-use Rattle.dc_poly.specs.Vanish.{Over, Grid, whole}
+use Rattle.dc_poly.specs.Grid.{Over, Grid, whole}
 
 -- a polynomial in n variables, of degree at most d in each, that is 0 on every point of the grid has only zero coefficients
 abbrev pub Vanishes : Type 0

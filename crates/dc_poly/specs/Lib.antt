@@ -2,15 +2,6 @@ pub mod Terms
 pub mod Sums
 pub mod Conditions
 pub mod Laws
-pub mod One
-pub mod Vanish
-pub mod Same
-pub mod Canon
 pub mod Order
-pub mod Values
-pub mod Padded
-pub mod Sizes
-pub mod Degrees
-pub mod Closed
-pub mod Unique
 pub mod Affine
+pub mod Grid

@@ -7,8 +7,8 @@ use Rattle.dc_poly.specs.Terms.{degree_of, Polynomial, Places}
 use Rattle.dc_poly.specs.Sums.{unit_at, zeros, plus, composition_of, places_of, sum_of}
 use Rattle.dc_poly.specs.Sums as sums
 use Rattle.dc_poly.specs.Affine.{units}
-use Rattle.dc_poly.specs.Values.{Canonical-composed, Canonical-plus}
-use Rattle.dc_poly.specs.Padded.{AllPadded, Places-composed, Places-plus, Places-variable}
+use Rattle.dc_poly.proofs.Values.{Canonical-composed, Canonical-plus}
+use Rattle.dc_poly.proofs.Padded.{AllPadded, Places-composed, Places-plus, Places-variable}
 use Rattle.dc_affine.specs.declared.atom.Atom.{Atom}
 use Rattle.dc_affine.specs.Forms.{most, coefs_fit, IsNarrow}
 use Rattle.dc_affine.specs.Atoms.{AllFit, IsAtom, AllAtoms}

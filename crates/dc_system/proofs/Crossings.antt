@@ -11,7 +11,7 @@ use Rattle.dc_syntax.specs.Table.{Then}
 use Rattle.dc_poly.specs.Terms.{Exponents, TermList, power, mono_value, value, coef, degree_of, Places, Polynomial}
 use Rattle.dc_poly.specs.Sums.{zeros, values, composition_of, places_of, sum_of}
 use Rattle.dc_poly.specs.Affine.{units}
-use Rattle.dc_poly.specs.Values.{value-composed, value-plus}
+use Rattle.dc_poly.proofs.Values.{value-composed, value-plus}
 use Rattle.dc_affine.specs.declared.atom.Atom.{Atom}
 use Rattle.dc_affine.specs.Atoms.{atom_value, holds_at, all_hold, AllAtoms}
 use Rattle.dc_affine.proofs.Units.{read_value}
@@ -21,8 +21,8 @@ use Rattle.dc_system.specs.Edges.{chosen}
 use Rattle.dc_system.specs.Paths.{at, Step}
 use Rattle.dc_system.specs.Shapes.{IsForm, TermsSkip, Skips, AtomSkips, IsUnchosen, IsEdge}
 use Rattle.dc_system.specs.Composed.{after, coef_at, atom_at, atoms_at, forms_at, composed, all_flat, atoms_fit, form_fits, forms_fit, can_compose, compose_of, Crosses}
-use Rattle.dc_poly.specs.Padded.{Places-variable}
-use Rattle.dc_poly.specs.Degrees.{degree-unit_at}
+use Rattle.dc_poly.proofs.Padded.{Places-variable}
+use Rattle.dc_poly.proofs.Degrees.{degree-unit_at}
 use Rattle.dc_system.proofs.Wider.{both}
 use Rattle.dc_system.proofs.Lists.{each-++}
 use Rattle.dc_system.proofs.Points.{chosen_value, values-++}

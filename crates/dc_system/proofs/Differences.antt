@@ -7,10 +7,10 @@ use Rattle.dc_syntax.specs.declared.tree.Expr.TheVariants.{Var}
 use Rattle.dc_poly.specs.Terms.{Exponents, same_mono, coef, Polynomial, IsPolynomial}
 use Rattle.dc_poly.specs.Sums.{plus, negated, unit_at, variable_of, variable, sum_of, negation_of}
 use Rattle.dc_poly.specs.Conditions.{CanAdd}
-use Rattle.dc_poly.specs.Values.{coef-plus}
-use Rattle.dc_poly.specs.Same.{coef-negated}
-use Rattle.dc_poly.specs.Closed.{is_variable}
-use Rattle.dc_poly.specs.Degrees.{degree-unit_at}
+use Rattle.dc_poly.proofs.Values.{coef-plus}
+use Rattle.dc_poly.proofs.Same.{coef-negated}
+use Rattle.dc_poly.proofs.Closed.{is_variable}
+use Rattle.dc_poly.proofs.Degrees.{degree-unit_at}
 use Rattle.dc_affine.specs.declared.atom.Atom.{Atom}
 use Rattle.dc_affine.specs.Forms.{IsNarrow, formed, form_of}
 use Rattle.dc_affine.specs.Table.{fact}

@@ -13,12 +13,12 @@ use Rattle.dc_syntax.specs.Value.{State}
 use Rattle.dc_poly.specs.Terms.{Exponents, TermList, value, same_mono, coef, degree_of, Canonical, Places}
 use Rattle.dc_poly.specs.Sums.{plus, negated, zeros, unit_at, variable_of}
 use Rattle.dc_poly.specs.Affine.{units}
-use Rattle.dc_poly.specs.Values.{value-plus, coef-plus, Canonical-plus}
-use Rattle.dc_poly.specs.Same.{value-negated, coef-negated}
-use Rattle.dc_poly.specs.Closed.{Canonical-negated}
-use Rattle.dc_poly.specs.Canon.{same_mono_is}
-use Rattle.dc_poly.specs.Degrees.{degree-plus, degree-negated, degree-unit_at}
-use Rattle.dc_poly.specs.Padded.{Places-plus, Places-negated}
+use Rattle.dc_poly.proofs.Values.{value-plus, coef-plus, Canonical-plus}
+use Rattle.dc_poly.proofs.Same.{value-negated, coef-negated}
+use Rattle.dc_poly.proofs.Closed.{Canonical-negated}
+use Rattle.dc_poly.proofs.Canon.{same_mono_is}
+use Rattle.dc_poly.proofs.Degrees.{degree-plus, degree-negated, degree-unit_at}
+use Rattle.dc_poly.proofs.Padded.{Places-plus, Places-negated}
 use Rattle.dc_affine.specs.Forms.{most, Formed, formed, is_below, below_step, affine_fault}
 use Rattle.dc_affine.specs.Table.{Fact, fact, fact_true, all_of, facts_of}
 use Rattle.dc_affine.specs.Atoms.{holds_at, all_hold, AllFit, IsAtom, AllAtoms, gap_of, atom_of, cond_is_below, comparison_fault}

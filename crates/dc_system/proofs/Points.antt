@@ -15,7 +15,7 @@ use Rattle.dc_syntax.proofs.Inductions.{Expr-induction}
 use Rattle.dc_syntax.proofs.Parts.{value-Var}
 use Rattle.dc_poly.specs.Terms.{Polynomial, value}
 use Rattle.dc_poly.specs.Sums.{values, variable, constant}
-use Rattle.dc_poly.specs.Values.{value-variable, value-constant}
+use Rattle.dc_poly.proofs.Values.{value-variable, value-constant}
 use Rattle.dc_affine.specs.Forms.{is_below, below_step, fault_of, form_of}
 use Rattle.dc_affine.specs.Table.{Fact, fact, fact_true, all_of}
 use Rattle.dc_affine.specs.Atoms.{all_hold, holds_at, atom_of}

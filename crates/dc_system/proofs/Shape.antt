@@ -9,7 +9,7 @@ use Rattle.dc_syntax.specs.declared.tree.Proc.{Proc}
 use Rattle.dc_poly.specs.Terms.{Exponents, TermList, coef, Places, Polynomial}
 use Rattle.dc_poly.specs.Sums.{zeros, unit_at, constant_of, variable}
 use Rattle.dc_poly.specs.Affine.{units}
-use Rattle.dc_poly.specs.Closed.{is_constant, is_variable}
+use Rattle.dc_poly.proofs.Closed.{is_constant, is_variable}
 use Rattle.dc_affine.specs.Forms.{formed, form_of, is_below, IsNarrow}
 use Rattle.dc_affine.specs.Table.{Fact, fact}
 use Rattle.dc_affine.specs.Atoms.{AllAtoms, atom_of, gap_of}

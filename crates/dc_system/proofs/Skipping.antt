@@ -8,7 +8,7 @@ use Rattle.std.specs.declared.cmp.Ordering.TheVariants.{Less, Equal, Greater}
 use Rattle.dc_math.specs.WholeRing.{ring, reads, read_nat, same_form}
 use Rattle.dc_poly.specs.Terms.{Exponents, TermList, same_mono, coef, Polynomial}
 use Rattle.dc_poly.specs.Order.{graded}
-use Rattle.dc_poly.specs.Canon.{same_mono_is}
+use Rattle.dc_poly.proofs.Canon.{same_mono_is}
 use Rattle.dc_poly.specs.Sums.{with_term, insert, plus, times_mono, shifted, times, zeros, constant_of, times_power, first_of, rest_of, term_at, composed}
 use Rattle.dc_system.specs.Shapes.{TermsSkip, Skips}
 use Rattle.dc_system.specs.Composed.{coef_at}

@@ -5,11 +5,11 @@ use Rattle.std.proofs.Common.{ap, arith}
 use Rattle.std.proofs.lemmas.Bool.{leb-true}
 use Rattle.dc_poly.specs.declared.monomial.Term.{Term}
 use Rattle.dc_poly.specs.Terms.{Exponents, TermList, degree_of, weight, Ahead, Canonical, Places, Before, polynomial, IsPolynomial}
-use Rattle.dc_poly.specs.Sizes.{mul_both}
+use Rattle.dc_poly.proofs.Sizes.{mul_both}
 use Rattle.dc_template.specs.Monomials.{monomials_of}
-use Rattle.dc_template.specs.Orders.{Ordered, In, no_longer}
-use Rattle.dc_template.specs.Listed.{list_ordered, list_every}
-use Rattle.dc_template.specs.Weights.{few_monomials}
+use Rattle.dc_template.proofs.Orders.{Ordered, In, no_longer}
+use Rattle.dc_template.proofs.Listed.{list_ordered, list_every}
+use Rattle.dc_template.proofs.Weights.{few_monomials}
 use Rattle.dc_affine.specs.Forms.{most, coefs_fit, IsNarrow}
 use Rattle.dc_affine.proofs.FormLaws.{and_both}
 

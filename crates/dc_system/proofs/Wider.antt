@@ -13,9 +13,9 @@ use Rattle.dc_syntax.specs.declared.tree.Cond.TheOpen as G
 use Rattle.dc_syntax.specs.Trees.{EachExpr, EachCond}
 use Rattle.dc_syntax.proofs.Inductions.{Expr-induction, Cond-induction}
 use Rattle.dc_poly.specs.Sums.{unit_at}
-use Rattle.dc_poly.specs.Canon.{same_mono_is}
+use Rattle.dc_poly.proofs.Canon.{same_mono_is}
 use Rattle.dc_poly.specs.Terms.{Exponents, TermList, term, same_mono, coef, power, front, others, mono_value, value, degree, degree_of, Greater, Before, lower, level, Ahead, Canonical, Places}
-use Rattle.dc_poly.specs.Unique.{values_unique}
+use Rattle.dc_poly.proofs.Unique.{values_unique}
 use Rattle.dc_affine.specs.declared.form.FormFault.{FormFault}
 use Rattle.dc_affine.specs.declared.form.FormFault.TheVariants.{NoMemory}
 use Rattle.dc_affine.specs.Forms.{most, Formed, formed, form_step, fault_of, own_fault, affine_fault, bend, coefs_fit, is_below, below_step, IsCause}

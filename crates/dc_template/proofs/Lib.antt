@@ -1,2 +1,6 @@
 pub mod Walks
 pub mod Stages
+pub mod Counts
+pub mod Listed
+pub mod Orders
+pub mod Weights

@@ -7,10 +7,10 @@ use Rattle.dc_math.specs.WholeRing.{ring, reads, read_nat, same_form}
 use Rattle.dc_poly.specs.Terms.{Exponents, degree, degree_of, weight, largest, power, mono_value, value, Polynomial, IsPolynomial}
 use Rattle.dc_poly.specs.Sums.{constant, product_of, values}
 use Rattle.dc_poly.specs.Conditions.{CanMul, HavePlaces}
-use Rattle.dc_poly.specs.Sizes.{mul_both, power_more, weight-times, weight-constant}
-use Rattle.dc_poly.specs.Degrees.{degree-times, degree-constant}
+use Rattle.dc_poly.proofs.Sizes.{mul_both, power_more, weight-times, weight-constant}
+use Rattle.dc_poly.proofs.Degrees.{degree-times, degree-constant}
 use Rattle.dc_template.specs.Columns.{IsNormalForm, column_places, normal_weight}
-use Rattle.dc_template.specs.Weights.{normal_light}
+use Rattle.dc_template.proofs.Weights.{normal_light}
 
 -- ---- after i factors u to the column c
 pub record Stage (c u : Polynomial) (i : ℕ) (p : Polynomial) : Type 0 where

@@ -6,11 +6,11 @@ use Rattle.std.proofs.Math.Nat.{mul-div_cancel_left}
 use Rattle.std.proofs.lemmas.List.{map-append, append-nil}
 use Rattle.dc_poly.specs.Terms.{Exponents, degree}
 use Rattle.dc_poly.specs.Sums.{times_mono, zeros, unit_at}
-use Rattle.dc_poly.specs.Padded.{length-times, length-unit_at, length-zeros}
-use Rattle.dc_poly.specs.Degrees.{degree-times_mono, degree-unit_at, degree-zeros}
+use Rattle.dc_poly.proofs.Padded.{length-times, length-unit_at, length-zeros}
+use Rattle.dc_poly.proofs.Degrees.{degree-times_mono, degree-unit_at, degree-zeros}
 use Rattle.dc_template.specs.Monomials.{raised, of_degree, below, monomials_of, joined, continued}
-use Rattle.dc_template.specs.Listed.{IsExact, exact}
-use Rattle.dc_template.specs.Counts.{higher, no_degree, count_small}
+use Rattle.dc_template.proofs.Listed.{IsExact, exact}
+use Rattle.dc_template.proofs.Counts.{higher, no_degree, count_small}
 
 times-zeros : (m : Exponents) (n : ℕ) → n ≤ length m → times_mono m (zeros n) ≡ m
 times-zeros [] zero h = refl

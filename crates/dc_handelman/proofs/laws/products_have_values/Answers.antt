@@ -1,4 +1,4 @@
-use Rattle.dc_handelman.specs.Values.{have_values, stay_above_zero}
+use Rattle.dc_handelman.proofs.Values.{have_values, stay_above_zero}
 use Rattle.dc_handelman.proofs.laws.products_have_values.Goals as goal
 
 pub returns : goal.returns

@@ -1,4 +1,4 @@
-use Rattle.dc_poly.specs.Values.{coef-plus}
+use Rattle.dc_poly.proofs.Values.{coef-plus}
 use Rattle.dc_poly.proofs.laws.coefficients_add_up.Goals as goal
 
 pub returns : goal.returns

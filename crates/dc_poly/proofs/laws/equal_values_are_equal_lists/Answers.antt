@@ -1,7 +1,7 @@
 use Rattle.std.proofs.Common.{ap₂, sym, subst}
 use Rattle.dc_poly.specs.Terms.{polynomial, Places}
-use Rattle.dc_poly.specs.Canon.{canonical_unique}
-use Rattle.dc_poly.specs.Unique.{values_unique}
+use Rattle.dc_poly.proofs.Canon.{canonical_unique}
+use Rattle.dc_poly.proofs.Unique.{values_unique}
 use Rattle.dc_poly.proofs.laws.equal_values_are_equal_lists.Goals as goal
 
 pub returns-clause-values : goal.returns-clause-values

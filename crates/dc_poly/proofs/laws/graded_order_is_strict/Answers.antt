@@ -1,4 +1,4 @@
-use Rattle.dc_poly.specs.Order.{graded_told, Before-not, Before-trans}
+use Rattle.dc_poly.proofs.Graded.{graded_told, Before-not, Before-trans}
 use Rattle.dc_poly.proofs.laws.graded_order_is_strict.Goals as goal
 
 pub returns : goal.returns

@@ -1,4 +1,4 @@
-use Rattle.dc_poly.specs.Vanish.{vanishing}
+use Rattle.dc_poly.proofs.Vanish.{vanishing}
 use Rattle.dc_poly.proofs.laws.vanishing_on_a_grid.Goals as goal
 
 pub returns : goal.returns

@@ -1,7 +1,7 @@
 use Rattle.std.proofs.Common.{◌∙◌, sym, ap, subst, arith, ◌-◌, drop}
 use Rattle.dc_poly.specs.Terms.{Canonical}
 use Rattle.dc_poly.specs.Sums.{times}
-use Rattle.dc_poly.specs.Values.{Canonical-times}
+use Rattle.dc_poly.proofs.Values.{Canonical-times}
 use Rattle.dc_poly.proofs.Products.{degree_within, shift_light, shift_padded, nonzero_within, Canonical-shifted, times_light}
 use Rattle.dc_poly.proofs.lists.product.Goals as goal
 

@@ -1,7 +1,7 @@
 use Rattle.std.proofs.Common.{◌∙◌, ap, length, arith}
 use Rattle.dc_poly.specs.Terms.{degree}
-use Rattle.dc_poly.specs.Padded.{length-unit_at}
-use Rattle.dc_poly.specs.Degrees.{degree-unit_at}
+use Rattle.dc_poly.proofs.Padded.{length-unit_at}
+use Rattle.dc_poly.proofs.Degrees.{degree-unit_at}
 use Rattle.dc_template.proofs.listing.+extend.Goals as goal
 
 pub times-requires-clause-same_places : goal.times-requires-clause-same_places

@@ -1,6 +1,6 @@
 use Rattle.std.proofs.Common.{sym, subst, arith}
 use Rattle.dc_template.specs.Monomials.{AreMonomials}
-use Rattle.dc_template.specs.Listed.{are_monomials}
+use Rattle.dc_template.proofs.Listed.{are_monomials}
 use Rattle.dc_template.proofs.Walks.{list_end}
 use Rattle.dc_template.proofs.listing.monomials.Goals as goal
 

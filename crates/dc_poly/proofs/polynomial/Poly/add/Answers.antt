@@ -1,7 +1,7 @@
 use Rattle.std.proofs.Common.{◌∙◌, sym, ap, subst}
 use Rattle.dc_poly.specs.Terms.{IsPolynomial, value, Polynomial}
-use Rattle.dc_poly.specs.Closed.{is_sum}
-use Rattle.dc_poly.specs.Values.{value-plus}
+use Rattle.dc_poly.proofs.Closed.{is_sum}
+use Rattle.dc_poly.proofs.Values.{value-plus}
 use Rattle.dc_poly.proofs.Polys.{sum_same, places_in, terms_in}
 use Rattle.dc_poly.proofs.polynomial.Poly.add.Goals as goal
 

@@ -3,8 +3,8 @@ use Rattle.std.proofs.lemmas.Int.{to_z-of_z}
 use Rattle.std.specs.Int.{w128}
 use Rattle.std.proofs.Common.{SFits, rules}
 use Rattle.dc_poly.specs.Terms.{IsPolynomial, polynomial, value}
-use Rattle.dc_poly.specs.Closed.{is_constant}
-use Rattle.dc_poly.specs.Values.{value-constant}
+use Rattle.dc_poly.proofs.Closed.{is_constant}
+use Rattle.dc_poly.proofs.Values.{value-constant}
 use Rattle.dc_poly.proofs.polynomial.Poly.constant.Goals as goal
 
 pub invariant_of-result : goal.invariant_of-result

@@ -1,7 +1,7 @@
 use Rattle.std.proofs.Common.{◌∙◌, sym, ap, subst}
 use Rattle.dc_poly.specs.Terms.{IsPolynomial, value, Polynomial, Places}
-use Rattle.dc_poly.specs.Closed.{is_product}
-use Rattle.dc_poly.specs.Values.{value-times}
+use Rattle.dc_poly.proofs.Closed.{is_product}
+use Rattle.dc_poly.proofs.Values.{value-times}
 use Rattle.dc_poly.proofs.Polys.{product_same, places_in, terms_in}
 use Rattle.dc_poly.proofs.polynomial.Poly.mul.Goals as goal
 

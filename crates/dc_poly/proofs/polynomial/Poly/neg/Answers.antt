@@ -2,8 +2,8 @@ use Rattle.std.proofs.Common.{rules, ◌∙◌, sym, ap, subst, SFits, arith, �
 use Rattle.std.specs.Int.{w128}
 use Rattle.std.proofs.lemmas.Int.{to_z-of_z}
 use Rattle.dc_poly.specs.Terms.{IsPolynomial, weight, value, Polynomial}
-use Rattle.dc_poly.specs.Closed.{is_negation}
-use Rattle.dc_poly.specs.Same.{value-negated}
+use Rattle.dc_poly.proofs.Closed.{is_negation}
+use Rattle.dc_poly.proofs.Same.{value-negated}
 use Rattle.dc_poly.proofs.Products.{size_within}
 use Rattle.dc_poly.proofs.Polys.{neg_fits, neg_is, neg_step, neg_done, negation_same, places_in, terms_in}
 use Rattle.dc_poly.proofs.polynomial.Poly.neg.Goals as goal

@@ -2,7 +2,7 @@ use Rattle.std.proofs.Common.{◌∙◌, sym, ap, ap₂, subst, arith, ◌+◌, 
 use Rattle.dc_poly.specs.Terms.{Canonical, Places, Polynomial, TermList, degree_of, weight, largest, value}
 use Rattle.dc_poly.specs.Sums.{plus, places_of}
 use Rattle.dc_poly.specs.Conditions.{composed_weight}
-use Rattle.dc_poly.specs.Values.{value-composed}
+use Rattle.dc_poly.proofs.Values.{value-composed}
 use Rattle.dc_poly.proofs.Products.{places_within, degree_within}
 use Rattle.dc_poly.proofs.Substitution.{Canonical-term_at, part_light, round_order, round_light, round_next, round_end}
 use Rattle.dc_poly.proofs.Polys.{places_in, terms_in, composition_same, composition_is}

@@ -1,7 +1,7 @@
 use Rattle.std.proofs.Common.{◌∙◌, sym, ap, ap₂, subst, ◌++◌, ◌∷◌, [], pos}
 use Rattle.dc_poly.specs.Terms.{IsPolynomial, polynomial, value, term}
-use Rattle.dc_poly.specs.Closed.{is_variable}
-use Rattle.dc_poly.specs.Values.{value-variable}
+use Rattle.dc_poly.proofs.Closed.{is_variable}
+use Rattle.dc_poly.proofs.Values.{value-variable}
 use Rattle.dc_poly.proofs.polynomial.Poly.variable.Goals as goal
 
 pub invariant_of-result : goal.invariant_of-result

@@ -5,7 +5,7 @@ use Rattle.std.proofs.Math.Dec.{eqb_refl}
 use Rattle.std.proofs.lemmas.Int.{ints}
 use Rattle.dc_poly.specs.declared.monomial.Term.{Term}
 use Rattle.dc_poly.specs.Terms.{Exponents, TermList, term, same_mono, coef, Before, Ahead, Canonical}
-use Rattle.dc_poly.specs.Order.{Before-not, Order, before, same, after, order, Ahead-more}
+use Rattle.dc_poly.proofs.Graded.{Before-not, Order, before, same, after, order, Ahead-more}
 
 so : (b : Bool) → T b → b ≡ true
 so true h = refl

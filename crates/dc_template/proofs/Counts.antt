@@ -3,7 +3,7 @@ use Rattle.std.specs.Prelude.{◌≡◌, ℕ, zero, suc, ◌+◌, ◌*◌, ◌^�
 use Rattle.std.proofs.Common.{◌∙◌, ap, ap₂, arith, length-append}
 use Rattle.std.proofs.Math.Nat.{pow-succ', pow-zero}
 use Rattle.dc_poly.specs.Terms.{Exponents}
-use Rattle.dc_poly.specs.Sizes.{power_more}
+use Rattle.dc_poly.proofs.Sizes.{power_more}
 use Rattle.dc_template.specs.Monomials.{raised, widened, of_degree, below, monomials_of}
 
 length-mapped : (f : Exponents → Exponents) (xs : List Exponents) → length (map f xs) ≡ length xs

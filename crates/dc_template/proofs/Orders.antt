@@ -5,7 +5,7 @@ use Rattle.std.proofs.Common.{sym, ◌∙◌, ap₂, subst, arith, inl, inr}
 use Rattle.std.proofs.lemmas.List.Elements.{All-from_recursion, recursion_from_All, All-contains}
 use Rattle.std.proofs.lemmas.List.Kept.{AllPairs-cons}
 use Rattle.dc_poly.specs.Terms.{Exponents, Before}
-use Rattle.dc_poly.specs.Order.{Before-not, Before-trans}
+use Rattle.dc_poly.proofs.Graded.{Before-not, Before-trans}
 
 -- each is before all later ones
 abbrev pub Ordered : List Exponents → Type 0

@@ -5,12 +5,12 @@ use Rattle.std.proofs.Common.{ap, arith}
 use Rattle.std.proofs.lemmas.List.Elements.{recursion_from_All}
 use Rattle.dc_poly.specs.declared.monomial.Term.{Term}
 use Rattle.dc_poly.specs.Terms.{Exponents, TermList, degree_of, weight, Ahead, Canonical, Places, Before, Polynomial, IsPolynomial}
-use Rattle.dc_poly.specs.Sizes.{mul_both}
+use Rattle.dc_poly.proofs.Sizes.{mul_both}
 use Rattle.dc_template.specs.Monomials.{monomials_of}
 use Rattle.dc_template.specs.Columns.{largest_literal, HasLiteral, IsNormalForm, normal_weight}
-use Rattle.dc_template.specs.Orders.{Ordered, In, no_longer}
-use Rattle.dc_template.specs.Listed.{list_ordered, list_every}
-use Rattle.dc_template.specs.Counts.{higher, no_degree}
+use Rattle.dc_template.proofs.Orders.{Ordered, In, no_longer}
+use Rattle.dc_template.proofs.Listed.{list_ordered, list_every}
+use Rattle.dc_template.proofs.Counts.{higher, no_degree}
 
 monos : TermList → List Exponents
 monos p = map (λ (t : Term). t.mono) p

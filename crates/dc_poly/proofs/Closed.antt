@@ -5,10 +5,10 @@ use Rattle.std.proofs.lemmas.Int.{ints}
 use Rattle.dc_poly.specs.Terms.{Exponents, TermList, Ahead, Canonical, Places, largest, Polynomial, IsPolynomial}
 use Rattle.dc_poly.specs.Sums.{negated, composed, constant, variable, sum_of, negation_of, product_of, composition_of, places_of}
 use Rattle.dc_poly.specs.Conditions.{CanAdd, CanMul, CanSubst}
-use Rattle.dc_poly.specs.Values.{Canonical-constant, Canonical-plus, Canonical-times, Canonical-composed}
-use Rattle.dc_poly.specs.Padded.{Places-constant, Places-variable, Places-plus, Places-negated, Places-times}
-use Rattle.dc_poly.specs.Sizes.{weight-constant, weight-plus, weight-negated, weight-times, weight-composed}
-use Rattle.dc_poly.specs.Degrees.{degree-constant, degree-unit_at, degree-plus, degree-negated}
+use Rattle.dc_poly.proofs.Values.{Canonical-constant, Canonical-plus, Canonical-times, Canonical-composed}
+use Rattle.dc_poly.proofs.Padded.{Places-constant, Places-variable, Places-plus, Places-negated, Places-times}
+use Rattle.dc_poly.proofs.Sizes.{weight-constant, weight-plus, weight-negated, weight-times, weight-composed}
+use Rattle.dc_poly.proofs.Degrees.{degree-constant, degree-unit_at, degree-plus, degree-negated}
 
 Ahead-negated : (m : Exponents) (p : TermList) → Ahead m p → Ahead m (negated p)
 Ahead-negated m [] h = tt

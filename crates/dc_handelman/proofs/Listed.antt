@@ -5,7 +5,7 @@ use Rattle.std.proofs.Common.{ap, subst, arith, inl, inr}
 use Rattle.std.proofs.lemmas.Bool.{cases_lt}
 use Rattle.std.proofs.lemmas.List.Elements.{All-from_recursion, recursion_from_All}
 use Rattle.dc_handelman.specs.Choices.{Choice, Rises, IsChoice, Before, fewer, level, AreChoices, AreFixed, widened, of_size, below, choices_of}
-use Rattle.dc_handelman.specs.Orders.{Ordered, In, each-append, each-map, each-weaker, each-in, ordered-append, ordered-map, in-append_left, in-append_right, in-map, same_members, in_contained, contained_in, pairs_ordered, ordered_pairs}
+use Rattle.dc_handelman.proofs.Orders.{Ordered, In, each-append, each-map, each-weaker, each-in, ordered-append, ordered-map, in-append_left, in-append_right, in-map, same_members, in_contained, contained_in, pairs_ordered, ordered_pairs}
 
 -- k numbers, from low on and below n
 pub record IsExact (n low k : ℕ) (c : Choice) : Type 0 where

@@ -1,28 +1,13 @@
 -- A polynomial in n variables of degree at most d in each that is 0 on the grid has only zero coefficients.
-use Rattle.std.specs.Prelude.{◌≡◌, ◌⊎◌, ℕ, zero, suc, ◌+◌, ◌≤◌, ◌<◌, Bool, true, false, cond, ◌&&◌, eqb, T, List, [], ◌∷◌, length, map, ℤ, pos, ◌+ℤ◌, ◌*ℤ◌, refl}
+use Rattle.std.specs.Prelude.{◌≡◌, ◌⊎◌, ℕ, zero, suc, ◌+◌, ◌≤◌, ◌<◌, Bool, true, false, cond, ◌&&◌, eqb, T, List, [], ◌∷◌, length, ℤ, pos, ◌+ℤ◌, ◌*ℤ◌, refl}
 use Rattle.std.proofs.Common.{sym, ◌∙◌, ap, ap₂, subst, arith, eqb→eq, inl, inr}
 use Rattle.std.proofs.Math.Dec.{eqb_refl}
 use Rattle.std.proofs.lemmas.Bool.{cases_lt}
 use Rattle.std.proofs.lemmas.Int.{ints}
 use Rattle.dc_math.specs.WholeRing.{ring, reads, read_nat, same_form}
-use Rattle.dc_poly.specs.One.{one_value, Zeros, one_law}
+use Rattle.dc_poly.proofs.One.{one_value, Zeros, one_law}
 use Rattle.dc_poly.specs.Terms.{Exponents, TermList, term, power, mono_value, value, same_mono, coef}
-
--- one exponent for each of n places, each at most d
-abbrev pub Bounded : ℕ → Exponents → Type 0
-Bounded d [] = Unit {0}
-Bounded d (e ∷ m) = (e ≤ d) × Bounded d m
-
-abbrev pub Over : ℕ → ℕ → TermList → Type 0
-Over n d [] = Unit {0}
-Over n d (t ∷ p) = ((length t.mono ≡ n) × Bounded d t.mono) × Over n d p
-
--- a point of the grid: one number of 0 to d for each of n places
-abbrev pub Grid : ℕ → ℕ → List ℕ → Type 0
-Grid n d xs = (length xs ≡ n) × Bounded d xs
-
-abbrev pub whole : List ℕ → List ℤ
-whole xs = map pos xs
+use Rattle.dc_poly.specs.Grid.{Bounded, Over, Grid, whole}
 
 -- the terms with the exponent j at the first place, without it
 abbrev part_term : ℕ → Exponents → ℤ → TermList → TermList

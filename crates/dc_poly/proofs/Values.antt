@@ -6,8 +6,9 @@ use Rattle.std.specs.declared.cmp.Ordering.TheVariants.{Less, Equal, Greater}
 use Rattle.std.proofs.lemmas.Int.{ints}
 use Rattle.dc_math.specs.WholeRing.{ring, reads, read_nat, same_form, linear₁}
 use Rattle.dc_poly.specs.Terms.{Exponents, TermList, power, front, others, mono_value, value, same_mono, coef, Before, Ahead, Canonical, Polynomial}
-use Rattle.dc_poly.specs.Order.{graded, Told, graded_told, Ahead-more}
-use Rattle.dc_poly.specs.Canon.{canonical_unique}
+use Rattle.dc_poly.specs.Order.{graded, Told}
+use Rattle.dc_poly.proofs.Graded.{graded_told, Ahead-more}
+use Rattle.dc_poly.proofs.Canon.{canonical_unique}
 use Rattle.dc_poly.specs.Sums.{with_term, insert, plus, times_mono, shifted, times, zeros, unit_at, constant_of, times_power, first_of, rest_of, term_at, composed, values, variable_of}
 
 -- ---- values

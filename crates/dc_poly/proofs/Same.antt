@@ -4,8 +4,8 @@ use Rattle.std.proofs.Common.{◌∙◌, ap, arith}
 use Rattle.std.proofs.lemmas.Int.{ints}
 use Rattle.dc_math.specs.WholeRing.{ring, reads, same_form}
 use Rattle.dc_poly.specs.Terms.{Exponents, TermList, mono_value, value, same_mono, coef, Places}
-use Rattle.dc_poly.specs.Vanish.{Bounded, Over, Grid, whole}
-use Rattle.dc_poly.specs.Vanish.{vanishing}
+use Rattle.dc_poly.specs.Grid.{Bounded, Over, Grid, whole}
+use Rattle.dc_poly.proofs.Vanish.{vanishing}
 use Rattle.dc_poly.specs.Sums.{negated}
 
 pub value-++ : (p q : TermList) (xs : List ℤ) → value (p ++ q) xs ≡ value p xs +ℤ value q xs

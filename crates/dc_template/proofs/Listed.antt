@@ -6,7 +6,7 @@ use Rattle.std.proofs.lemmas.Bool.{cases_lt}
 use Rattle.std.proofs.lemmas.List.Elements.{All-from_recursion, recursion_from_All}
 use Rattle.dc_poly.specs.Terms.{Exponents, degree, Before, lower, level}
 use Rattle.dc_template.specs.Monomials.{IsWithin, AreMonomials, AreFixed, raised, widened, of_degree, below, monomials_of}
-use Rattle.dc_template.specs.Orders.{Ordered, In, each-append, each-map, each-weaker, each-in, ordered-append, ordered-map, in-append_left, in-append_right, in-map, same_members, in_contained, contained_in, pairs_ordered, ordered_pairs}
+use Rattle.dc_template.proofs.Orders.{Ordered, In, each-append, each-map, each-weaker, each-in, ordered-append, ordered-map, in-append_left, in-append_right, in-map, same_members, in_contained, contained_in, pairs_ordered, ordered_pairs}
 
 -- of n places and of degree d
 pub record IsExact (n d : ℕ) (m : Exponents) : Type 0 where

@@ -1,7 +1,7 @@
 -- The number of choices: Pascal's rule, and the law by which one division gives the next number.
 use Rattle.std.specs.Prelude.{◌≡◌, ℕ, zero, suc, ◌+◌, ◌*◌, ◌≤◌, List, [], ◌∷◌, map, length, refl}
 use Rattle.std.proofs.Common.{◌∙◌, ap, ap₂, arith, length-append}
-use Rattle.dc_poly.specs.Sizes.{mul_both}
+use Rattle.dc_poly.proofs.Sizes.{mul_both}
 use Rattle.dc_handelman.specs.Choices.{Choice, widened, of_size, below, choices_of}
 
 length-mapped : (f : Choice → Choice) (xs : List Choice) → length (map f xs) ≡ length xs

@@ -11,14 +11,14 @@ use Rattle.dc_math.specs.WholeVectors.{dot_ℤ, dot_ℤ-nil}
 use Rattle.dc_poly.specs.Terms.{Polynomial, IsPolynomial, degree_of, weight, value, front, others}
 use Rattle.dc_poly.specs.Sums.{constant, variable, sum_of, product_of, constant_of, variable_of, times}
 use Rattle.dc_poly.specs.Conditions.{CanAdd, CanMul}
-use Rattle.dc_poly.specs.Values.{value-plus, value-times, value-constant, value-variable}
-use Rattle.dc_poly.specs.Sizes.{weight-constant, weight-plus, weight-times, mul_both, power_more}
-use Rattle.dc_poly.specs.Degrees.{degree-constant, degree-unit_at, degree-plus, degree-times}
-use Rattle.dc_poly.specs.Closed.{is_constant, is_variable, is_sum, is_product}
+use Rattle.dc_poly.proofs.Values.{value-plus, value-times, value-constant, value-variable}
+use Rattle.dc_poly.proofs.Sizes.{weight-constant, weight-plus, weight-times, mul_both, power_more}
+use Rattle.dc_poly.proofs.Degrees.{degree-constant, degree-unit_at, degree-plus, degree-times}
+use Rattle.dc_poly.proofs.Closed.{is_constant, is_variable, is_sum, is_product}
 use Rattle.dc_affine.specs.declared.atom.Atom.{Atom}
 use Rattle.dc_affine.specs.Atoms.{AllFit, IsAtom, AllAtoms, atom_value}
 use Rattle.dc_handelman.specs.Choices.{Choice, Rises, IsChoice, choices_of}
-use Rattle.dc_handelman.specs.Listed.{are_choices}
+use Rattle.dc_handelman.proofs.Listed.{are_choices}
 use Rattle.dc_handelman.specs.Products.{linear_of, form_of, factor_at, times_choice, product_at, products_of, factor_weight, IsProduct, atom_at, choice_value, FactorsHold, HaveValues, StayAboveZero}
 
 -- ---- values
