@@ -4,7 +4,7 @@ use Rattle.dc_math.specs.Rational.{ℚ}
 use Rattle.dc_math.specs.RationalField.{rationals}
 use Rattle.dc_lp.specs.Linear.{Linear}
 use Rattle.dc_lp.specs.Tables.{Table}
-use Rattle.dc_pivots.specs.Runs.{Ending}
+use Rattle.dc_pivots.specs.declared.Ending.{Ending}
 use Rattle.dc_pivots.specs.FieldLaws.{choose}
 use Rattle.dc_pivots.proofs.Whole.{ends_soon}
 use Rattle.dc_simplex.specs.declared.Outcome.{Outcome}

@@ -4,7 +4,7 @@ use Rattle.dc_math.specs.Rational.{ℚ}
 use Rattle.dc_lp.specs.Linear.{Linear}
 use Rattle.dc_lp.specs.Tables.{Table}
 use Rattle.dc_lp.specs.Meanings.{Meaning}
-use Rattle.dc_pivots.specs.Runs.{Ending}
+use Rattle.dc_pivots.specs.declared.Ending.{Ending}
 use Rattle.dc_simplex.specs.declared.Outcome.{Outcome}
 use Rattle.dc_simplex.specs.Limits.{EndsWith, IsPast}
 use Rattle.dc_simplex.specs.Outcomes.{TellsDone, pivots_of}

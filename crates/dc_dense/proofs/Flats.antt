@@ -15,7 +15,7 @@ use Rattle.dc_lp.specs.Meanings.{all_below}
 use Rattle.dc_lp.specs.Tables.{made}
 use Rattle.dc_dense.specs.Flat.{item, flat, divisions_fit, ChangesWithin, IsDivided, reductions_fit, step_fits, IsReduced, row_fits, rows_fit, reduced_item, AreReduced, items_fit, pivoted_item}
 use Rattle.dc_dense.proofs.Places.{rows_apart}
-use Rattle.dc_dense.proofs.Tests.{or_true, or_true_or, all_below-fails, all_below-same}
+use Rattle.dc_lp.proofs.Belows.{or_true, or_true_or, all_below-fails, all_below-same}
 
 -- ---- one number
 

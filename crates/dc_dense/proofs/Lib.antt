@@ -1,6 +1,4 @@
 pub mod Places
-pub mod Tests
-pub mod Firsts
 pub mod Flats
 pub mod Links
 pub mod Ratios

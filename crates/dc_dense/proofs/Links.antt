@@ -11,11 +11,11 @@ use Rattle.dc_frac.specs.Fits.{quotient_fits, product_fits, difference_fits}
 use Rattle.dc_lp.specs.Tables as tables
 use Rattle.dc_lp.specs.Tables.{Table, made, first_index}
 use Rattle.dc_lp.specs.Folds.{checked}
-use Rattle.dc_lp.specs.FieldTests.{zero_test, negative_test}
+use Rattle.dc_lp.proofs.FieldTests.{zero_test, negative_test}
 use Rattle.dc_lp.specs.Meanings.{Meaning, resting, at, is_zero, entering, all_below, pivoted, pivot_fits, division_fits, reduction_fits, divided}
 use Rattle.dc_dense.specs.Flat.{item, flat, step_fits, items_fit, pivoted_item, ArePivoted}
-use Rattle.dc_dense.proofs.Tests.{all_below-same}
-use Rattle.dc_dense.proofs.Firsts.{first_some-none, first_some-found}
+use Rattle.dc_lp.proofs.Belows.{all_below-same}
+use Rattle.dc_lp.proofs.Firsts.{first_some-none, first_some-found}
 use Rattle.dc_dense.proofs.Flats.{flat-at}
 
 pub made-same : {A : Type 0} (n : ℕ) (f g : ℕ → A) → ((i : ℕ) → i < n → f i ≡ g i) → made n f ≡ made n g

@@ -7,13 +7,13 @@ use Rattle.dc_math.specs.Tests as tests
 use Rattle.dc_math.specs.Tests.{lt_ℚ, lt_ℚ-true, lt_ℚ-false}
 use Rattle.dc_frac.specs.Fits.{quotient_fits}
 use Rattle.dc_frac.specs.Value.{value}
-use Rattle.dc_lp.specs.FieldTests.{below_test, positive_test}
+use Rattle.dc_lp.proofs.FieldTests.{below_test, positive_test}
 use Rattle.dc_lp.specs.Tables as tables
 use Rattle.dc_lp.specs.Tables.{Table}
 use Rattle.dc_lp.specs.Meanings.{at, right, is_positive, ratio_answer, ratio_row, ratios_fit}
 use Rattle.dc_dense.specs.declared.dense.Candidate.{Candidate}
 use Rattle.dc_dense.specs.Ratios.{IsCandidate, row_of, goes_before, better, tested_fit, IsBestOf}
-use Rattle.dc_dense.proofs.Tests.{all_below-fails}
+use Rattle.dc_lp.proofs.Belows.{all_below-fails}
 
 -- a positive number isn't 0
 pub positive-nonzero : (x : ℚ) → tests.is_positive x ≡ true → tests.is_zero x ≡ false

@@ -11,7 +11,7 @@ use Rattle.dc_frac.specs.Fits.{sum_fits, product_fits, IsSmall}
 use Rattle.dc_lp.specs.declared.Entry.{Entry}
 use Rattle.dc_lp.specs.declared.Problem.{Problem}
 use Rattle.dc_lp.specs.Problems.{IsColumn, IsWellFormed, coefficient_in, coefficient, entries}
-use Rattle.dc_lp.specs.Columns.{row_after, row_after-rows, none_behind, next, coefficient-weight, entries-at}
+use Rattle.dc_lp.proofs.Columns.{row_after, row_after-rows, none_behind, next, coefficient-weight, entries-at}
 use Rattle.dc_lp.specs.Folds.{added, folded, numbers}
 
 -- ---- one term

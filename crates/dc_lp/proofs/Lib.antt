@@ -1,2 +1,11 @@
+pub mod Firsts
+pub mod Belows
+pub mod Columns
+pub mod FoldSums
+pub mod FieldTests
+pub mod Duality
+pub mod Chosen
+pub mod Choices
+pub mod Fills
 pub mod Folding
 pub mod Checking

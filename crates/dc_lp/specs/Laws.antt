@@ -1,9 +1,10 @@
 -- The laws of linear problems, over the rational numbers.
-use Rattle.std.specs.Prelude.{◌≡◌, ℕ}
+use Rattle.std.specs.Prelude.{◌≡◌, ◌↔◌, ℕ, Some, None}
 use Rattle.dc_math.specs.Rational.{ℚ}
 use Rattle.dc_lp.specs.Linear.{Linear, combined_right, cost_of, IsDual, IsRefutation, IsRay, CostAtLeast, HasNoSolution, HasNoBound}
 use Rattle.dc_lp.specs.Tables.{Table}
-use Rattle.dc_lp.specs.Meanings.{IsPivotPlace}
+use Rattle.dc_lp.specs.Meanings.{IsPivotPlace, entering, ratio_row}
+use Rattle.dc_lp.specs.Choices.{Enters, NoneEnters, Leaves, NoneLeaves, HasApartBasis}
 use Rattle.dc_lp.specs.Fill.{FillIsGaps}
 
 -- the right side of a dual is below the cost of each solution; where they are equal, no solution costs less
@@ -21,3 +22,20 @@ RayGoesOn = (p : Linear ℚ) (r : ℕ → ℚ) → IsRay p r → HasNoBound p
 
 abbrev pub Fills : Type 0
 Fills = (t : Table ℚ) (r j : ℕ) → IsPivotPlace t r j → FillIsGaps t r j
+
+-- the column that enters, and that none does
+abbrev pub ColumnEnters : Type 0
+ColumnEnters = (t : Table ℚ) (i j : ℕ) → (entering t i ≡ Some j) ↔ Enters t i j
+
+abbrev pub NoColumnEnters : Type 0
+NoColumnEnters = (t : Table ℚ) (i : ℕ) → (entering t i ≡ None) ↔ NoneEnters t i
+
+-- the row that leaves; where no column is basic twice there is one such row at most; and that none does
+abbrev pub RowLeaves : Type 0
+RowLeaves = (t : Table ℚ) (j r : ℕ) → ratio_row t j ≡ Some r → Leaves t j r
+
+abbrev pub OneRowLeaves : Type 0
+OneRowLeaves = (t : Table ℚ) (j r : ℕ) → HasApartBasis t → Leaves t j r → ratio_row t j ≡ Some r
+
+abbrev pub NoRowLeaves : Type 0
+NoRowLeaves = (t : Table ℚ) (j : ℕ) → (ratio_row t j ≡ None) ↔ NoneLeaves t j

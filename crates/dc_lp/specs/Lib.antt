@@ -1,13 +1,9 @@
 pub mod Linear
 pub mod Problems
-pub mod Columns
 pub mod Folds
-pub mod FoldSums
 pub mod Verdicts
 pub mod Tables
-pub mod FieldTests
 pub mod Meanings
+pub mod Choices
 pub mod Fill
 pub mod Laws
-pub mod Duality
-pub mod Fills

@@ -94,10 +94,10 @@ pub record IsPlace (t : Table ℚ) (i k : ℕ) : Type 0 where
   pub row : i < height t
   pub column : k < width t
 
--- where a pivot may be made: a nonzero entry of an equation in a real column
+-- where a pivot may be made: a nonzero entry of an equation
 pub record IsPivotPlace (t : Table ℚ) (r j : ℕ) : Type 0 where
   pub row : r < length t.basis
-  pub column : j < t.real
+  pub column : j < width t
   pub nonzero : is_zero (at t r j) ≡ false
 
 -- the row of the least quotient, if all quotients fit

@@ -50,7 +50,8 @@ pub fn dot(a: &[i128], x: &[Frac]) -> Option<Frac>
     Some(sum)
 }
 
-fn add_term(sum: Frac, a: i128, x: Frac) -> Option<Frac>
+/// A sum with one term `a * x` more; `None` exactly where that doesn't fit.
+pub fn add_term(sum: Frac, a: i128, x: Frac) -> Option<Frac>
     requires { IsSmall a }
     ensures { option_map value result ≡ added (value sum) a (value x) }
 {
@@ -61,7 +62,7 @@ fn add_term(sum: Frac, a: i128, x: Frac) -> Option<Frac>
 }
 
 /// The value of a column's entry in a row, and 0 where there is none.
-fn coefficient(column: &[Entry], row: usize) -> i128
+pub fn coefficient(column: &[Entry], row: usize) -> i128
     ensures { result ≡ coefficient_in column.now row }
 {
     for e in column {

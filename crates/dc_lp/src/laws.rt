@@ -1,6 +1,6 @@
 //! Laws of linear problems over the rational numbers, for vectors of any numbers.
 
-ghost use Rattle.dc_lp.specs.Laws.{WeakDuality, BestByDual, RefutationExcludes, RayGoesOn, Fills};
+ghost use Rattle.dc_lp.specs.Laws.{WeakDuality, BestByDual, RefutationExcludes, RayGoesOn, Fills, ColumnEnters, NoColumnEnters, RowLeaves, OneRowLeaves, NoRowLeaves};
 
 /// Weak duality: a solution costs at least the right side of each dual. So a solution whose cost is the right side of a dual is
 /// a best one.
@@ -23,4 +23,20 @@ pub fn ray()
 /// with one of its row at which there is none.
 pub fn fill()
     ensures { Fills }
+{}
+
+/// The column that enters is the least real one with a negative entry in the cost row, and none enters exactly where there is no such
+/// column.
+pub fn entering()
+    ensures column { ColumnEnters }
+    ensures none { NoColumnEnters }
+{}
+
+/// The row that leaves has a positive entry in the column; of the rows that have one, none has a lesser quotient of right side by entry,
+/// and none that ties has a lesser basic column. Where no column is basic in two rows, the only row of which that holds leaves. None
+/// leaves exactly where no entry of the column is positive.
+pub fn leaving()
+    ensures row { RowLeaves }
+    ensures one { OneRowLeaves }
+    ensures none { NoRowLeaves }
 {}

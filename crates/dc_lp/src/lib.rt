@@ -12,6 +12,7 @@ mod shape;
 mod tableau;
 
 pub use crate::check::{check_dual, check_primal, check_ray, check_refutation};
+pub use crate::fold::{add_term, coefficient, dot, price};
 pub use crate::tableau::{PastPivot, PastQuotient, Tableau};
 
 /// A nonzero coefficient of a column.

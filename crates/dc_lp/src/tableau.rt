@@ -3,18 +3,21 @@
 ghost use Rattle.std.specs.Prelude.{◌≡◌, ◌<◌, ◌≤◌, true, false, OnOk, OnErr, IsOk, slice_index, length, ◌↔◌};
 ghost use Rattle.dc_frac.specs.Value.{value};
 ghost use Rattle.dc_lp.specs.Problems.{IsWellFormed};
-ghost use Rattle.dc_lp.specs.Meanings.{Meaning, IsUsable, IsPlace, IsPivotPlace, resting, ready_at, start, at, height, entering, ratio_answer, pivoted, pivot_fits};
+ghost use Rattle.dc_lp.specs.Meanings.{Meaning, IsUsable, IsPlace, IsPivotPlace, resting, ready_at, start, at, height, width, entering, ratio_answer, pivoted, pivot_fits};
 
 use crate::Problem;
 use dc_frac::Frac;
 use std::alloc::AllocError;
+use thiserror::Error;
 
 /// A quotient of right side by entry passes 128 bits.
-#[derive(Debug, Drop)]
+#[derive(Debug, Drop, Error)]
+#[error("a quotient passes 128 bits")]
 pub struct PastQuotient;
 
 /// A value of a pivot passes 128 bits.
-#[derive(Debug, Drop)]
+#[derive(Debug, Drop, Error)]
+#[error("a value of a pivot passes 128 bits")]
 pub struct PastPivot;
 
 /// A table of fractions for the simplex method with Bland's rule (R. G. Bland, New finite pivoting rules for the simplex method, 1977).
@@ -50,14 +53,14 @@ pub trait Tableau {
         requires row { cost_row < height (meaning self.now).table }
         ensures { result ≡ entering (meaning self.now).table cost_row };
 
-    /// Of the equations' rows with a positive entry in a real column, the one whose quotient of right side by entry is least,
+    /// Of the equations' rows with a positive entry in a column, the one whose quotient of right side by entry is least,
     /// ties by the least basic column; `None` exactly where no entry is positive.
     ///
     /// # Errors
     /// `PastQuotient` exactly where one of the quotients doesn't fit.
     fn ratio_row(&self, col: usize) -> Result<Option<usize>, PastQuotient>
         requires usable { IsUsable (meaning self.now) }
-        requires column { col < (meaning self.now).table.real }
+        requires column { col < width (meaning self.now).table }
         ensures { result ≡ ratio_answer (meaning self.now).table col };
 
     /// Makes room for the pivot at a place. It changes nothing else, and nothing at all after a refusal.

@@ -14,7 +14,8 @@ use Rattle.dc_pivots.proofs.Ties.{IsTied, IsPriced, pivot-row, pivot-other, basi
 use Rattle.dc_math.specs.FieldSums.{inverse-back, zero_add, neg_back, neg_add, mul_neg}
 use Rattle.dc_math.specs.FieldOrder.{nonneg_zero, neg_mul, above-nonneg, above-nonzero, inverse-nonneg, zero-times, times-zero, minus_nothing}
 use Rattle.dc_pivots.proofs.Start.{first_costs, last_costs, first_costs-real, first_costs-artificial, first_costs-right, first_costs-nonneg, tied-start, priced-first, priced-last, feasible-start, start_basis}
-use Rattle.dc_pivots.proofs.Choices.{entering-is, Leads, IsBest, ratio_row-is, IsDrive, drive-is, drive-none, Move, stays_one, ends_one, drives, begins_two, stays_two, zero-is}
+use Rattle.dc_lp.proofs.Chosen.{entering-is, Leads, IsBest, ratio_row-is, IsDrive, drive-is, drive-none, zero-is}
+use Rattle.dc_pivots.proofs.Choices.{Move, stays_one, ends_one, drives, begins_two, stays_two}
 
 pub phase-cases : (q : Phase) → (q ≡ One) ⊎ ((q ≡ Drive) ⊎ (q ≡ Two))
 phase-cases One = inl refl

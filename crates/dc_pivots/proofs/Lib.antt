@@ -1,7 +1,7 @@
 pub mod Rows
 pub mod Segment
 pub mod Ties
-pub mod Phase
+pub mod PhaseLaws
 pub mod Count
 pub mod Choices
 pub mod Start

@@ -13,9 +13,11 @@ use Rattle.dc_pivots.proofs.Ties.{no_more}
 use Rattle.dc_math.specs.FieldSums.{zero_add, neg_zero, neg_add, mul_neg}
 use Rattle.dc_math.specs.FieldOrder.{neg_neg, neg_mul, below-nonzero}
 use Rattle.dc_pivots.proofs.Start.{first_costs, last_costs, first_costs-real, first_costs-nonneg}
-use Rattle.dc_pivots.proofs.Choices.{entering-is, ratio_row-none, index-some, IsDrive, drive-is, Move, stays_one, ends_one, drives, begins_two, stays_two, move}
+use Rattle.dc_lp.proofs.Firsts.{index-some}
+use Rattle.dc_lp.proofs.Chosen.{entering-is, ratio_row-none, IsDrive, drive-is}
+use Rattle.dc_pivots.proofs.Choices.{Move, stays_one, ends_one, drives, begins_two, stays_two, move}
 use Rattle.dc_pivots.proofs.Kept.{IsShadow, Kept, first-real}
-use Rattle.dc_pivots.proofs.Phase.{basic-costs}
+use Rattle.dc_pivots.proofs.PhaseLaws.{basic-costs}
 use Rattle.dc_pivots.proofs.Whole.{G, C, G-next, G-first, IsReached, run-is, kept, basic-has}
 
 row_of : Due → ℕ

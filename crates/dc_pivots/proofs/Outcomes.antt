@@ -13,9 +13,11 @@ use Rattle.dc_pivots.proofs.Ties.{IsPriced}
 use Rattle.dc_math.specs.FieldSums.{mul_zero, zero_add, neg_back, neg_zero, neg_add, mul_neg, cancel, sum-same, sum-mul, sum-add, sum-swap}
 use Rattle.dc_math.specs.FieldOrder.{neg_neg, neg_mul, nonneg_zero, nonneg_one, below-nonzero, zero-times, times-zero, sum-zero, sum-unit}
 use Rattle.dc_pivots.proofs.Start.{first_costs, last_costs, entry-artificial, entry-right, value-last}
-use Rattle.dc_pivots.proofs.Choices.{entering-is, entering-none, ratio_row-none, index-some, index-none, drive-none, Stop, none_feasible, finishes, stop, IsTwoEnd}
+use Rattle.dc_lp.proofs.Firsts.{index-some, index-none}
+use Rattle.dc_lp.proofs.Chosen.{entering-is, entering-none, ratio_row-none, drive-none}
+use Rattle.dc_pivots.proofs.Choices.{Stop, none_feasible, finishes, stop, IsTwoEnd}
 use Rattle.dc_pivots.proofs.Kept.{Kept, dry-after}
-use Rattle.dc_pivots.proofs.Phase.{basic-costs, different}
+use Rattle.dc_pivots.proofs.PhaseLaws.{basic-costs, different}
 use Rattle.dc_pivots.proofs.Whole.{G, C, IsReached, run-is, kept}
 use Rattle.dc_pivots.proofs.Opposites.{phase_one-leaves}
 

@@ -10,7 +10,8 @@ use Rattle.dc_pivots.specs.Runs.{State, Phase, Pivot, due_at, run}
 use Rattle.dc_pivots.specs.FieldLaws.{IsFeasible}
 use Rattle.dc_pivots.specs.FieldLaws as laws
 use Rattle.dc_pivots.specs.Laws.{PivotsHavePlaces}
-use Rattle.dc_pivots.proofs.Choices.{move, zero-is}
+use Rattle.dc_lp.proofs.Chosen.{zero-is}
+use Rattle.dc_pivots.proofs.Choices.{move}
 use Rattle.dc_pivots.proofs.Kept.{Kept, IsPlace, place}
 use Rattle.dc_pivots.proofs.Whole.{G, C, IsReached, run-is, kept}
 
@@ -54,4 +55,5 @@ module _ (Q : Type 0) (F : Field Q) (p : Linear Q) where
 pub pivots_have_places : PivotsHavePlaces
 pivots_have_places p n s q r j e d =
     let y = place-of ℚ rationals p n s q r j e d in
-    record { row = y.row; column = y.column; nonzero = false_from_ne_true _ (λ z. y.nonzero (zero-is ℚ rationals (at ℚ rationals s.table r j) z)) }
+    let l : j < s.table.real = y.column in
+    (record { row = y.row; column = omega arith; nonzero = false_from_ne_true _ (λ z. y.nonzero (zero-is ℚ rationals (at ℚ rationals s.table r j) z)) }, l)

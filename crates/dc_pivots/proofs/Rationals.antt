@@ -1,19 +1,21 @@
 -- What the end of a run shows, in the words of linear problems over the rational numbers.
-use Rattle.std.specs.Prelude.{◌≡◌, ℕ, false, pos}
-use Rattle.std.proofs.Common.{inl, inr, subst}
+use Rattle.std.specs.Prelude.{◌≡◌, ℕ, ◌+◌, length, false, pos}
+use Rattle.std.proofs.Common.{inl, inr, subst, sym, ◌∙◌}
 use Rattle.std.proofs.lemmas.Bool.{both_ways}
 use Rattle.dc_math.specs.Rational.{ℚ, of_ℤ, ◌<ℚ◌, ≤ℚ_or, sub-≤ℚ, neg_ℚ, le_ℚ}
 use Rattle.dc_math.specs.RationalField.{rationals, NonNegative-neg_ℚ, neg_ℚ-NonNegative}
 use Rattle.dc_math.specs.Tests.{le_ℚ-true, le_ℚ_true, le_ℚ_false}
 use Rattle.dc_lp.specs.Linear.{Linear, IsSolution, IsDual, IsRefutation, IsRay, CostAtLeast}
-use Rattle.dc_lp.specs.Duality.{weak, excludes}
-use Rattle.dc_lp.specs.Duality as duality
+use Rattle.dc_lp.proofs.Duality.{weak, excludes}
+use Rattle.dc_lp.proofs.Duality as duality
 use Rattle.dc_lp.specs.Tables.{Table}
 use Rattle.dc_pivots.specs.Runs.{Ending, Infeasible, Optimal, Unbounded}
-use Rattle.dc_pivots.specs.Outcomes.{Shows, Says}
-use Rattle.dc_pivots.specs.Laws.{EndsRight, EndsTrue}
+use Rattle.dc_pivots.specs.Vectors.{solution_at, direction_at, multiplier_at}
+use Rattle.dc_pivots.specs.Outcomes.{Shows, Says, Outcome, Best, Refuted, Falling}
+use Rattle.dc_pivots.specs.Laws.{EndsRight, EndsTrue, HasOutcome}
 use Rattle.dc_pivots.proofs.Certificates as field
 use Rattle.dc_pivots.proofs.Outcomes.{ends_right}
+use Rattle.dc_pivots.proofs.Whole.{ends}
 
 -- a number whose negation isn't at least 0 is above 0
 above : (x : ℚ) → le_ℚ (of_ℤ (pos 0)) (neg_ℚ x) ≡ false → of_ℤ (pos 0) <ℚ x
@@ -50,3 +52,14 @@ ends_right_rational p n s e r d = shows p s.table e (ends_right ℚ rationals p 
 
 pub ends_true : EndsTrue
 ends_true p n s e r d = says p s.table e (ends_right_rational p n s e r d)
+
+-- ---- every problem has an outcome: that of the last table of its run
+outcome : (p : Linear ℚ) (t : Table ℚ) (e : Ending) → Shows p t e → Outcome p
+outcome p t Optimal h = Best (solution_at ℚ rationals t) (multiplier_at ℚ rationals p t (length t.basis + 1)) h.solution h.dual (h.cost ∙ sym h.price)
+outcome p t Infeasible h = Refuted (multiplier_at ℚ rationals p t (length t.basis)) h
+outcome p t (Unbounded j) h = Falling (solution_at ℚ rationals t) (direction_at ℚ rationals t j) h.solution h.ray
+
+pub has_outcome : HasOutcome
+has_outcome p =
+    let o = (ends ℚ rationals p).2 in
+    outcome p o.state.table o.ending (ends_right_rational p (ends ℚ rationals p).0 o.state o.ending o.reached o.over)

@@ -14,7 +14,7 @@ use Rattle.dc_math.specs.FieldOrder.{below-nonzero, zero-times, times-zero, sum-
 use Rattle.dc_pivots.proofs.Start.{first_costs, last_costs, first_costs-real, start_basis}
 use Rattle.dc_pivots.proofs.Choices.{Move, stays_one, ends_one, drives, begins_two, stays_two, move}
 use Rattle.dc_pivots.proofs.Kept.{phase-cases, IsShadow, Kept, Kept-start, Kept-pivot, IsPlace, place, step-one, step-two, drive-artificial, shift-costs}
-use Rattle.dc_pivots.proofs.Phase.{no_cycle, costs-fixed, different}
+use Rattle.dc_pivots.proofs.PhaseLaws.{no_cycle, costs-fixed, different}
 use Rattle.dc_pivots.proofs.Count.{count, rank, rank-below, rank-same, pigeonhole, member, member-has, has-member, count-member}
 
 pub row_of : Due → ℕ

@@ -1,12 +1,12 @@
 -- The laws of the pivot run, for each linear problem over the rational numbers.
-use Rattle.std.specs.Prelude.{◌≡◌, ℕ, Some}
+use Rattle.std.specs.Prelude.{◌≡◌, ℕ, ◌<◌, Some}
 use Rattle.dc_math.specs.Rational.{ℚ}
 use Rattle.dc_math.specs.RationalField.{rationals}
 use Rattle.dc_lp.specs.Linear.{Linear}
 use Rattle.dc_lp.specs.Meanings.{IsPivotPlace}
 use Rattle.dc_pivots.specs.Runs.{State, Phase, Pivot, Ending, End, due_at, run}
 use Rattle.dc_pivots.specs.FieldLaws as laws
-use Rattle.dc_pivots.specs.Outcomes.{Shows, Says}
+use Rattle.dc_pivots.specs.Outcomes.{Shows, Says, Outcome}
 
 -- each table of a run has a basic column for each equation and no negative right side
 abbrev pub StaysFeasible : Type 0
@@ -14,7 +14,8 @@ StaysFeasible = (p : Linear ℚ) → laws.StaysFeasible ℚ rationals p
 
 -- where a pivot is due, it is at a nonzero entry of an equation in a real column
 abbrev pub PivotsHavePlaces : Type 0
-PivotsHavePlaces = (p : Linear ℚ) (n : ℕ) (s : State ℚ) (q : Phase) (r j : ℕ) → run ℚ rationals p n ≡ Some s → due_at ℚ rationals s ≡ Pivot q r j → IsPivotPlace s.table r j
+PivotsHavePlaces = (p : Linear ℚ) (n : ℕ) (s : State ℚ) (q : Phase) (r j : ℕ)
+    → run ℚ rationals p n ≡ Some s → due_at ℚ rationals s ≡ Pivot q r j → IsPivotPlace s.table r j × (j < s.table.real)
 
 -- no set of basic columns comes twice in a run, whatever the phases
 abbrev pub NeverRepeats : Type 0
@@ -47,3 +48,7 @@ EndsRight = (p : Linear ℚ) (n : ℕ) (s : State ℚ) (e : Ending) → run ℚ 
 -- and what that end says of the problem is so
 abbrev pub EndsTrue : Type 0
 EndsTrue = (p : Linear ℚ) (n : ℕ) (s : State ℚ) (e : Ending) → run ℚ rationals p n ≡ Some s → due_at ℚ rationals s ≡ End e → Says p s.table e
+
+-- every linear problem has a solution and a dual of equal value, a refutation, or a solution with a ray
+abbrev pub HasOutcome : Type 0
+HasOutcome = (p : Linear ℚ) → Outcome p

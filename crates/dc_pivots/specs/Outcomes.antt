@@ -31,3 +31,10 @@ abbrev pub Says : Linear ℚ → Table ℚ → Ending → Type 0
 Says p t Optimal = CostAtLeast p (value_of ℚ rationals t)
 Says p t Infeasible = HasNoSolution p
 Says p t (Unbounded j) = HasNoBound p
+
+-- ---- what a linear problem comes to
+-- a solution and a dual of equal value, a refutation, or a solution with a ray
+pub data Outcome (p : Linear ℚ) : Type 0 where
+  Best : (x y : ℕ → ℚ) → IsSolution p x → IsDual p y → cost_of p x ≡ combined_right p y → Outcome p
+  Refuted : (y : ℕ → ℚ) → IsRefutation p y → Outcome p
+  Falling : (x r : ℕ → ℚ) → IsSolution p x → IsRay p r → Outcome p

@@ -6,23 +6,12 @@ use Rattle.std.specs.Option.{option_and_then}
 use Rattle.dc_math.specs.Field.{Field}
 use Rattle.dc_lp.specs.Linear.{Linear}
 use Rattle.dc_lp.specs.Tables.{Table, at, right, start, entering, is_negative, ratio_row, drive_place, pivoted}
-
--- for what a pivot is made
-pub data Phase : Type 0 where
-  One : Phase
-  Drive : Phase
-  Two : Phase
-
--- how a run ends; without bound along the column that enters
-pub data Ending : Type 0 where
-  Infeasible : Ending
-  Optimal : Ending
-  Unbounded : ℕ → Ending
-
--- what is due: the pivot of a phase at a row and a column, or the end
-pub data Due : Type 0 where
-  Pivot : Phase → ℕ → ℕ → Due
-  End : Ending → Due
+pub use Rattle.dc_pivots.specs.declared.Phase.{Phase}
+pub use Rattle.dc_pivots.specs.declared.Phase.TheVariants.{One, Drive, Two}
+pub use Rattle.dc_pivots.specs.declared.Ending.{Ending}
+pub use Rattle.dc_pivots.specs.declared.Ending.TheVariants.{Infeasible, Optimal, Unbounded}
+pub use Rattle.dc_pivots.specs.declared.Due.{Due}
+pub use Rattle.dc_pivots.specs.declared.Due.TheVariants.{Pivot, End}
 
 -- the phase of the last pivot (phase one at first), and the table
 pub record State (Q : Type 0) : Type 0 where

@@ -1,7 +1,7 @@
 //! Laws of the pivot run, for each linear problem over the rational numbers (Bland, New Finite Pivoting Rules for the Simplex
 //! Method, 1977).
 
-ghost use Rattle.dc_pivots.specs.Laws.{StaysFeasible, PivotsHavePlaces, NeverRepeats, Ends, EndsSoon, NeverSpent, PhaseOneLeaves, StayOpposite, EndsRight, EndsTrue};
+ghost use Rattle.dc_pivots.specs.Laws.{StaysFeasible, PivotsHavePlaces, NeverRepeats, Ends, EndsSoon, NeverSpent, PhaseOneLeaves, StayOpposite, EndsRight, EndsTrue, HasOutcome};
 
 /// Each table of a run has a basic column for each equation and no negative right side, so its basic solution is at least 0; and where a
 /// pivot is due, it is at a nonzero entry of an equation in a real column.
@@ -39,4 +39,10 @@ pub fn opposites_stay()
 pub fn ends_right()
     ensures shown { EndsRight }
     ensures so { EndsTrue }
+{}
+
+/// Every linear problem over the rational numbers has a solution and a dual of equal value, a refutation, or a solution
+/// with a ray: strong duality, and Farkas' lemma in its hard direction (Schrijver, Theory of Linear and Integer Programming, chapter 7).
+pub fn problems_have_outcomes()
+    ensures { HasOutcome }
 {}

@@ -9,12 +9,16 @@ use Rattle.dc_lp.specs.declared.tableau.PastQuotient.{PastQuotient}
 use Rattle.dc_lp.specs.Folds.{checked}
 use Rattle.dc_lp.specs.Tables as tables
 use Rattle.dc_lp.specs.Tables.{Table, first_some, first_index}
-use Rattle.dc_lp.specs.FieldTests.{zero_test}
+use Rattle.dc_lp.proofs.FieldTests.{zero_test}
 use Rattle.dc_lp.specs.Meanings.{at, right, is_positive, is_zero, entering, ratio_row, ratio_answer, ratios_fit, drive_place, all_below}
 use Rattle.dc_pivots.specs.Runs as runs
-use Rattle.dc_pivots.specs.Runs.{One, Drive, Two, Infeasible, Optimal, Unbounded, Due, Pivot, End}
+use Rattle.dc_pivots.specs.declared.Phase.TheVariants.{One, Drive, Two}
+use Rattle.dc_pivots.specs.declared.Ending.TheVariants.{Infeasible, Optimal, Unbounded}
+use Rattle.dc_pivots.specs.declared.Due.{Due}
+use Rattle.dc_pivots.specs.declared.Due.TheVariants.{Pivot, End}
 use Rattle.dc_simplex.specs.Steps.{told, due_one, due_two, due_drive, end_one}
-use Rattle.dc_simplex.proofs.Firsts.{first_index-is, first_some-found, first_some-none, all_below-false_first, some-of}
+use Rattle.dc_lp.proofs.Firsts.{index-some, first_some-found, first_some-none}
+use Rattle.dc_lp.proofs.Belows.{all_below-false_first}
 
 abbrev pub real_entry : Table ℚ → ℕ → Option ℕ
 real_entry t i = tables.real_entry ℚ rationals t i
@@ -48,10 +52,14 @@ answer-err t j x a =
       | inr b ↦ b
     ]
 
+some-of : (o : Option ℕ) → IsSome o → (r : ℕ) × (o ≡ Some r)
+some-of None h = absurd (cc)
+some-of (Some r) h = (r, refl)
+
 -- The column that enters is real.
 pub entering-real : (t : Table ℚ) (i j : ℕ) → entering t i ≡ Some j → j < t.real
 unfolding tables.entering
-entering-real t i j e = (first_index-is (λ k. tables.is_negative ℚ rationals (at t i k)) t.real j e).0
+entering-real t i j e = (index-some (λ k. tables.is_negative ℚ rationals (at t i k)) t.real j e).0
 
 -- Where a quotient doesn't fit, a row leaves.
 

@@ -6,7 +6,10 @@ use Rattle.dc_math.specs.RationalField.{rationals}
 use Rattle.dc_lp.specs.Linear.{Linear}
 use Rattle.dc_lp.specs.Tables.{Table}
 use Rattle.dc_lp.specs.Meanings.{pivoted}
-use Rattle.dc_pivots.specs.Runs.{Ending, Due, Pivot, End, State, run, IsPivot}
+use Rattle.dc_pivots.specs.Runs.{State, run, IsPivot}
+use Rattle.dc_pivots.specs.declared.Ending.{Ending}
+use Rattle.dc_pivots.specs.declared.Due.{Due}
+use Rattle.dc_pivots.specs.declared.Due.TheVariants.{Pivot, End}
 use Rattle.dc_simplex.specs.Limits.{test_fits, change_fits, due_in, fits, IsReached, EndsWith, IsPast, IsSpent, Answer, Done, Past, Out, IsAnswer, HasAnswer, HasOneAnswer}
 use Rattle.dc_simplex.proofs.Reach.{unfit-pivots, no_pivot, one_state, reached-begun, reached-more, IsBefore, before}
 

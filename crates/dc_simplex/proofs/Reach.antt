@@ -7,7 +7,11 @@ use Rattle.dc_math.specs.RationalField.{rationals}
 use Rattle.dc_lp.specs.Linear.{Linear}
 use Rattle.dc_lp.specs.Tables.{Table}
 use Rattle.dc_lp.specs.Meanings.{pivoted, pivot_fits}
-use Rattle.dc_pivots.specs.Runs.{Phase, Ending, Due, Pivot, End, State, due_at, begun, after, run, IsPivot}
+use Rattle.dc_pivots.specs.Runs.{State, due_at, begun, after, run, IsPivot}
+use Rattle.dc_pivots.specs.declared.Phase.{Phase}
+use Rattle.dc_pivots.specs.declared.Ending.{Ending}
+use Rattle.dc_pivots.specs.declared.Due.{Due}
+use Rattle.dc_pivots.specs.declared.Due.TheVariants.{Pivot, End}
 use Rattle.dc_simplex.specs.Limits.{test_fits, change_fits, due_in, fits, AllFit, IsReached}
 
 pub and_false : (a b : Bool) → b ≡ false → a && b ≡ false

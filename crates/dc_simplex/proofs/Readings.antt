@@ -17,7 +17,7 @@ use Rattle.dc_lp.specs.Tables.{Table, first_index}
 use Rattle.dc_lp.specs.Meanings.{at, right, IsPlace}
 use Rattle.dc_pivots.specs.Vectors.{basic_row, entry_or_zero}
 use Rattle.dc_simplex.specs.Outcomes.{IsVector, solution_at, direction_at, multiplier_at}
-use Rattle.dc_simplex.proofs.Firsts.{first_index-is, first_some-none, first_some-found}
+use Rattle.dc_lp.proofs.Firsts.{index-some, first_some-none, first_some-found}
 
 -- ---- the row in which a column is basic
 
@@ -43,7 +43,7 @@ basic_row-none t j n e same = rw (← same) e
 
 pub basic_row-place : (t : Table ℚ) (j i k : ℕ) → basic_row t j ≡ Some i → k ≤ right t → IsPlace t i k
 unfolding basic_row
-basic_row-place t j i k e le = (let h = first_index-is (λ x. slice_index t.basis x == j) (length t.basis) i e in let lt : i < length t.basis = h.0 in record { row = omega arith; column = omega arith })
+basic_row-place t j i k e le = (let h = index-some (λ x. slice_index t.basis x == j) (length t.basis) i e in let lt : i < length t.basis = h.0 in record { row = omega arith; column = omega arith })
 
 -- ---- one number more
 

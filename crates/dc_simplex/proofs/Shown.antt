@@ -6,9 +6,11 @@ use Rattle.dc_frac.specs.declared.Frac.{Frac}
 use Rattle.dc_frac.specs.Value.{value}
 use Rattle.dc_lp.specs.Folds.{numbers}
 use Rattle.dc_lp.specs.Linear.{Linear, left_side, combined, combined_right, cost_of, IsSolution, IsDual, IsRefutation, IsRay, CostAtLeast}
-use Rattle.dc_lp.specs.Duality as duality
+use Rattle.dc_lp.proofs.Duality as duality
 use Rattle.dc_lp.specs.Tables.{Table}
 use Rattle.dc_pivots.specs.Runs as runs
+use Rattle.dc_pivots.specs.declared.Ending.{Ending}
+use Rattle.dc_pivots.specs.declared.Ending.TheVariants as endings
 use Rattle.dc_pivots.specs.Outcomes as ends
 use Rattle.dc_simplex.specs.declared.Outcome.{Outcome}
 use Rattle.dc_simplex.specs.declared.Outcome.TheVariants.{Optimal, Infeasible, Unbounded}
@@ -51,8 +53,8 @@ module _ (p : Linear ℚ) (f : ℕ → ℚ) (xs : List Frac) where
     right_side = subst (λ z. of_ℤ (pos 0) <ℚ z) (sym (right-same v)) h.right_side;
   }
 
-pub shown : (p : Linear ℚ) (t : Table ℚ) (e : runs.Ending) (o : Outcome) → ends.Shows p t e → TellsEnd p t e o → Shows p o
-shown p t runs.Optimal (Optimal x y v n) h k =
+pub shown : (p : Linear ℚ) (t : Table ℚ) (e : Ending) (o : Outcome) → ends.Shows p t e → TellsEnd p t e o → Shows p o
+shown p t endings.Optimal (Optimal x y v n) h k =
     let dual : IsDual p (numbers y.items) = dual-same p _ y.items k.dual h.dual in
     let price : combined_right p (numbers y.items) ≡ value v = right-same p _ y.items k.dual ∙ h.price ∙ sym k.value in
     record {
@@ -62,15 +64,15 @@ shown p t runs.Optimal (Optimal x y v n) h k =
       price = price;
       least = subst (CostAtLeast p) price (duality.weak p _ dual);
     }
-shown p t runs.Optimal (Infeasible y n) h k = absurd k
-shown p t runs.Optimal (Unbounded x r n) h k = absurd k
-shown p t runs.Infeasible (Optimal x y v n) h k = absurd k
-shown p t runs.Infeasible (Infeasible y n) h k =
+shown p t endings.Optimal (Infeasible y n) h k = absurd k
+shown p t endings.Optimal (Unbounded x r n) h k = absurd k
+shown p t endings.Infeasible (Optimal x y v n) h k = absurd k
+shown p t endings.Infeasible (Infeasible y n) h k =
     let refutation : IsRefutation p (numbers y.items) = refutation-same p _ y.items k h in
     record { refutation = refutation; none = duality.excludes p _ refutation }
-shown p t runs.Infeasible (Unbounded x r n) h k = absurd k
-shown p t (runs.Unbounded j) (Optimal x y v n) h k = absurd k
-shown p t (runs.Unbounded j) (Infeasible y n) h k = absurd k
-shown p t (runs.Unbounded j) (Unbounded x r n) h k =
+shown p t endings.Infeasible (Unbounded x r n) h k = absurd k
+shown p t (endings.Unbounded j) (Optimal x y v n) h k = absurd k
+shown p t (endings.Unbounded j) (Infeasible y n) h k = absurd k
+shown p t (endings.Unbounded j) (Unbounded x r n) h k =
     let ray = ray-same p _ r.items k.ray h.ray in
     record { solution = solution-same p _ x.items k.solution h.solution; ray = ray; falls = duality.ray p _ ray }

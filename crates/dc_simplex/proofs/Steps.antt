@@ -13,12 +13,14 @@ use Rattle.dc_lp.specs.Tables as tables
 use Rattle.dc_lp.specs.Tables.{Table}
 use Rattle.dc_lp.specs.Meanings.{Meaning, resting, start, pivoted, pivot_fits, IsPivotPlace, IsUsable}
 use Rattle.dc_pivots.specs.Runs as runs
-use Rattle.dc_pivots.specs.Runs.{State, Pivot, End, due_at, run, IsPivot}
+use Rattle.dc_pivots.specs.Runs.{State}
+use Rattle.dc_pivots.specs.declared.Phase.{Phase}
+use Rattle.dc_pivots.specs.declared.Phase.TheVariants.{One}
+use Rattle.dc_pivots.specs.declared.Due.{Due}
+use Rattle.dc_pivots.specs.declared.Due.TheVariants.{Pivot}
 use Rattle.dc_pivots.proofs.Places.{pivots_have_places}
-use Rattle.dc_simplex.specs.declared.next.Phase.{Phase}
-use Rattle.dc_simplex.specs.declared.next.Phase.TheVariants.{One}
 use Rattle.dc_simplex.specs.Limits.{test_fits, due_in, IsReached}
-use Rattle.dc_simplex.specs.Steps.{phase_of, told}
+use Rattle.dc_simplex.specs.Steps.{told}
 use Rattle.dc_simplex.proofs.Reach.{reached-begun, reached-more}
 
 -- ---- sizes
@@ -41,23 +43,23 @@ pivoted-basis t r j = simp length-set
 
 -- ---- what was told
 
-abbrev said : runs.Due → Result runs.Due PastQuotient
+abbrev said : Due → Result Due PastQuotient
 said d = Ok d
 
-abbrev refused : PastQuotient → Result runs.Due PastQuotient
+abbrev refused : PastQuotient → Result Due PastQuotient
 refused x = Err x
 
-abbrev refused_so : Result runs.Due PastQuotient
+abbrev refused_so : Result Due PastQuotient
 refused_so = Err (record {})
 
-told-ok : (t : Table ℚ) (d e : runs.Due) → said e ≡ told t d → (d ≡ e) × (test_fits t d ≡ true)
+told-ok : (t : Table ℚ) (d e : Due) → said e ≡ told t d → (d ≡ e) × (test_fits t d ≡ true)
 told-ok t d e h =
     elim (cases_Bool (test_fits t d)) [
       | inl b ↦ (let f : said e ≡ said d = rw b at h in ((cc), b))
       | inr b ↦ (let f : said e ≡ refused_so = rw b at h in absurd (cc))
     ]
 
-told-err : (t : Table ℚ) (d : runs.Due) (x : PastQuotient) → refused x ≡ told t d → test_fits t d ≡ false
+told-err : (t : Table ℚ) (d : Due) (x : PastQuotient) → refused x ≡ told t d → test_fits t d ≡ false
 told-err t d x h =
     elim (cases_Bool (test_fits t d)) [
       | inl b ↦ (let f : refused x ≡ said d = rw b at h in absurd (cc))
@@ -67,7 +69,7 @@ told-err t d x h =
 -- the tableau is where the run is after these pivots
 pub record IsHere (p : Linear ℚ) (budget m n pivots : ℕ) (phase : Phase) (x : Meaning) : Type 0 where
   pub rest : x ≡ resting x.table
-  pub reaches : IsReached p pivots (record { phase = phase_of phase; table = x.table })
+  pub reaches : IsReached p pivots (record { phase = phase; table = x.table })
   pub within : pivots ≤ budget
   pub rows : m ≡ length x.table.basis
   pub columns : n ≡ x.table.real
@@ -85,16 +87,16 @@ module _ (p : Linear ℚ) (budget m n k : ℕ) (phase : Phase) (x : Meaning) (h 
   pub here-usable : IsUsable x
   here-usable = record { loaded = ap (λ (y : Meaning). y.loaded) h.rest; whole = ap (λ (y : Meaning). y.broken) h.rest }
 
-  pub here-place : (q : runs.Phase) (r j : ℕ) → said (Pivot q r j) ≡ told x.table (due_in (phase_of phase) x.table) → IsPivotPlace x.table r j
-  here-place q r j e = pivots_have_places p k (record { phase = phase_of phase; table = x.table }) q r j h.reaches.reached (told-ok x.table (due_in (phase_of phase) x.table) (Pivot q r j) e).0
+  pub here-place : (q : Phase) (r j : ℕ) → said (Pivot q r j) ≡ told x.table (due_in phase x.table) → IsPivotPlace x.table r j
+  here-place q r j e = (pivots_have_places p k (record { phase = phase; table = x.table }) q r j h.reaches.reached (told-ok x.table (due_in phase x.table) (Pivot q r j) e).0).0
 
-  pub here-more : (q : Phase) (y : Meaning) (r j : ℕ) → said (Pivot (phase_of q) r j) ≡ told x.table (due_in (phase_of phase) x.table)
+  pub here-more : (q : Phase) (y : Meaning) (r j : ℕ) → said (Pivot q r j) ≡ told x.table (due_in phase x.table)
       → pivot_fits x.table r j ≡ true → y ≡ resting (pivoted x.table r j) → k ≢ budget → IsHere p budget m n (k + 1) q y
   here-more q y r j e f g ne =
-      let d = told-ok x.table (due_in (phase_of phase) x.table) (Pivot (phase_of q) r j) e in
+      let d = told-ok x.table (due_in phase x.table) (Pivot q r j) e in
       rw g (record {
         rest = refl;
-        reaches = reached-more p k (phase_of phase) x.table (phase_of q) r j h.reaches d.0 d.1 f;
+        reaches = reached-more p k phase x.table q r j h.reaches d.0 d.1 f;
         within = (let w : k ≤ budget = h.within in omega arith);
         rows = h.rows ∙ sym (pivoted-basis x.table r j);
         columns = h.columns ∙ sym (pivoted-real x.table r j);

@@ -5,7 +5,12 @@ use Rattle.dc_math.specs.RationalField.{rationals}
 use Rattle.dc_lp.specs.Linear.{Linear}
 use Rattle.dc_lp.specs.Tables.{Table}
 use Rattle.dc_lp.specs.Meanings.{ratios_fit, pivot_fits}
-use Rattle.dc_pivots.specs.Runs.{Phase, One, Drive, Two, Ending, Due, Pivot, End, State, due, run, Spent}
+use Rattle.dc_pivots.specs.Runs.{State, due, run, Spent}
+use Rattle.dc_pivots.specs.declared.Phase.{Phase}
+use Rattle.dc_pivots.specs.declared.Phase.TheVariants.{One, Drive, Two}
+use Rattle.dc_pivots.specs.declared.Ending.{Ending}
+use Rattle.dc_pivots.specs.declared.Due.{Due}
+use Rattle.dc_pivots.specs.declared.Due.TheVariants.{Pivot, End}
 
 -- the quotients of the ratio test that chose the pivot fit; drive-out has no such test
 abbrev pub test_fits : Table ℚ → Due → Bool

@@ -1,5 +1,5 @@
 -- What `solve` answers: the answer of the run with the vectors of its last table, and what these show of the problem.
-use Rattle.std.specs.Prelude.{◌≡◌, ℕ, ◌+◌, ◌<◌, ◌⊎◌, pos, List, length, Result, Ok, Err}
+use Rattle.std.specs.Prelude.{◌≡◌, ℕ, ◌+◌, ◌<◌, ◌≤◌, ◌⊎◌, pos, List, length, Some, Result, Ok, Err}
 use Rattle.dc_math.specs.Rational.{ℚ, of_ℤ}
 use Rattle.dc_math.specs.RationalField.{rationals}
 use Rattle.dc_frac.specs.declared.Frac.{Frac}
@@ -9,13 +9,16 @@ use Rattle.dc_lp.specs.Linear.{Linear, combined_right, cost_of, IsSolution, IsDu
 use Rattle.dc_lp.specs.Tables.{Table}
 use Rattle.dc_lp.specs.Meanings.{Meaning, resting}
 use Rattle.dc_pivots.specs.Runs as runs
+use Rattle.dc_pivots.specs.declared.Ending.{Ending}
+use Rattle.dc_pivots.specs.declared.Due.TheVariants.{End}
+use Rattle.dc_pivots.specs.declared.Ending.TheVariants as endings
 use Rattle.dc_pivots.specs.Vectors as vectors
 use Rattle.dc_pivots.specs.FieldLaws.{AreOpposite}
 use Rattle.dc_simplex.specs.declared.Outcome.{Outcome}
 use Rattle.dc_simplex.specs.declared.Outcome.TheVariants.{Optimal, Infeasible, Unbounded}
 use Rattle.dc_simplex.specs.declared.SolveFault.{SolveFault}
 use Rattle.dc_simplex.specs.declared.SolveFault.TheVariants.{Past128, Budget, NoMemory}
-use Rattle.dc_simplex.specs.Limits.{Answer, Done, Past, Out, IsAnswer}
+use Rattle.dc_simplex.specs.Limits.{AllFit, Answer, Done, Past, Out, IsAnswer}
 
 -- ---- the vectors of a table, over the rational numbers
 abbrev pub solution_at : Table ℚ → ℕ → ℚ
@@ -49,10 +52,10 @@ pub record TellsUnbounded (p : Linear ℚ) (t : Table ℚ) (j : ℕ) (x r : List
   pub ray : IsVector p.columns (direction_at t j) r
 
 -- the outcome is of this end; that of an infeasible problem has the multipliers by the cost row of phase one
-abbrev pub TellsEnd : Linear ℚ → Table ℚ → runs.Ending → Outcome → Type 0
-TellsEnd p t runs.Optimal (Optimal x y v n) = TellsBest p t x.items y.items v
-TellsEnd p t runs.Infeasible (Infeasible y n) = IsVector p.equations (multiplier_at p t (length t.basis)) y.items
-TellsEnd p t (runs.Unbounded j) (Unbounded x r n) = TellsUnbounded p t j x.items r.items
+abbrev pub TellsEnd : Linear ℚ → Table ℚ → Ending → Outcome → Type 0
+TellsEnd p t endings.Optimal (Optimal x y v n) = TellsBest p t x.items y.items v
+TellsEnd p t endings.Infeasible (Infeasible y n) = IsVector p.equations (multiplier_at p t (length t.basis)) y.items
+TellsEnd p t (endings.Unbounded j) (Unbounded x r n) = TellsUnbounded p t j x.items r.items
 TellsEnd p t e o = ⊥
 
 abbrev pub pivots_of : Outcome → ℕ
@@ -60,12 +63,33 @@ pivots_of (Optimal x y v n) = n
 pivots_of (Infeasible y n) = n
 pivots_of (Unbounded x r n) = n
 
--- The outcome tells the end of the run, and the tableau is left there, loaded, whole and ready for no pivot.
+-- The outcome of a problem, apart from any tableau and budget: its run ends so after so many pivots, and the vectors are those of its
+-- last table.
+pub record IsOutcome (p : Linear ℚ) (o : Outcome) : Type 0 where
+  pub ending : Ending
+  pub state : runs.State ℚ
+  pub reached : runs.run ℚ rationals p (pivots_of o) ≡ Some state
+  pub over : runs.due_at ℚ rationals state ≡ End ending
+  pub vectors : TellsEnd p state.table ending o
+
+-- the same end with the same numbers, after as many pivots
+abbrev pub AreSame : Outcome → Outcome → Type 0
+AreSame (Optimal x y v n) (Optimal x' y' v' n') = (x.items ≡ x'.items) × (y.items ≡ y'.items) × (v ≡ v') × (n ≡ n')
+AreSame (Infeasible y n) (Infeasible y' n') = (y.items ≡ y'.items) × (n ≡ n')
+AreSame (Unbounded x r n) (Unbounded x' r' n') = (x.items ≡ x'.items) × (r.items ≡ r'.items) × (n ≡ n')
+AreSame a b = ⊥
+
+-- each problem has one outcome at most
+abbrev pub HasOneOutcome : Type 0
+HasOneOutcome = (p : Linear ℚ) (a b : Outcome) → IsOutcome p a → IsOutcome p b → AreSame a b
+
+-- This is the outcome; its pivots fit and are within the budget; and the tableau is left at its last table, loaded, whole and ready for
+-- no pivot.
 pub record TellsDone (p : Linear ℚ) (budget : ℕ) (left : Meaning) (o : Outcome) : Type 0 where
-  pub ending : runs.Ending
-  pub answer : IsAnswer p budget (Done (pivots_of o) ending left.table)
-  pub rest : left ≡ resting left.table
-  pub vectors : TellsEnd p left.table ending o
+  pub outcome : IsOutcome p o
+  pub fit : AllFit p (pivots_of o)
+  pub within : pivots_of o ≤ budget
+  pub rest : left ≡ resting outcome.state.table
 
 -- each result but want of memory is the answer of the run
 abbrev pub Solves : Linear ℚ → ℕ → Meaning → Result Outcome SolveFault → Type 0

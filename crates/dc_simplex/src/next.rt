@@ -7,32 +7,10 @@ ghost use Rattle.dc_math.specs.RationalField.{rationals};
 ghost use Rattle.dc_lp.specs.Tables.{real_entry};
 ghost use Rattle.dc_lp.specs.Meanings.{IsUsable, drive_place};
 ghost use Rattle.dc_simplex.specs.Limits.{due_in};
-ghost use Rattle.dc_simplex.specs.Steps.{heard, told, phase_of, due_one, due_two, due_drive, end_one};
+ghost use Rattle.dc_simplex.specs.Steps.{told, due_one, due_two, due_drive, end_one};
 
 use dc_lp::{PastQuotient, Tableau};
-
-/// For what a pivot is made.
-#[derive(Clone, Copy, Debug)]
-pub enum Phase {
-    One,
-    Drive,
-    Two,
-}
-
-/// How a run ends; without bound along a column.
-#[derive(Clone, Copy, Debug)]
-pub enum Ending {
-    Infeasible,
-    Optimal,
-    Unbounded(usize),
-}
-
-/// What is due: the pivot of a phase at a row and a column, or the end.
-#[derive(Clone, Copy, Debug)]
-pub enum Due {
-    Pivot(Phase, usize, usize),
-    End(Ending),
-}
+use dc_pivots::{Due, Ending, Phase};
 
 /// What is due after a pivot of the phase, where there are `m` equations in `n` unknowns.
 pub fn next_due<T: Tableau>(
@@ -45,7 +23,7 @@ pub fn next_due<T: Tableau>(
     requires rows { m ≡ length (T.meaning tableau.now).table.basis }
     requires columns { n ≡ (T.meaning tableau.now).table.real }
     requires small { m + n + 1 < 2 ^ 64 }
-    ensures { heard result ≡ told (T.meaning tableau.now).table (due_in (phase_of phase) (T.meaning tableau.now).table) }
+    ensures { result ≡ told (T.meaning tableau.now).table (due_in phase (T.meaning tableau.now).table) }
 {
     match phase {
         Phase::One => next_one(m, n, tableau),
@@ -60,7 +38,7 @@ fn next_one<T: Tableau>(m: usize, n: usize, tableau: &T) -> Result<Due, PastQuot
     requires rows { m ≡ length (T.meaning tableau.now).table.basis }
     requires columns { n ≡ (T.meaning tableau.now).table.real }
     requires small { m + n + 1 < 2 ^ 64 }
-    ensures { heard result ≡ told (T.meaning tableau.now).table (due_one (T.meaning tableau.now).table) }
+    ensures { result ≡ told (T.meaning tableau.now).table (due_one (T.meaning tableau.now).table) }
 {
     match tableau.entering(m) {
         None => after_one(m, n, tableau),
@@ -78,7 +56,7 @@ fn after_one<T: Tableau>(m: usize, n: usize, tableau: &T) -> Result<Due, PastQuo
     requires rows { m ≡ length (T.meaning tableau.now).table.basis }
     requires columns { n ≡ (T.meaning tableau.now).table.real }
     requires small { m + n + 1 < 2 ^ 64 }
-    ensures { heard result ≡ told (T.meaning tableau.now).table (end_one (T.meaning tableau.now).table) }
+    ensures { result ≡ told (T.meaning tableau.now).table (end_one (T.meaning tableau.now).table) }
 {
     if tableau.entry(m, n + m).is_negative() {
         Ok(Due::End(Ending::Infeasible))
@@ -93,7 +71,7 @@ fn next_drive<T: Tableau>(m: usize, n: usize, tableau: &T) -> Result<Due, PastQu
     requires rows { m ≡ length (T.meaning tableau.now).table.basis }
     requires columns { n ≡ (T.meaning tableau.now).table.real }
     requires small { m + n + 1 < 2 ^ 64 }
-    ensures { heard result ≡ told (T.meaning tableau.now).table (due_drive (T.meaning tableau.now).table) }
+    ensures { result ≡ told (T.meaning tableau.now).table (due_drive (T.meaning tableau.now).table) }
 {
     match place_to_drive(m, n, tableau) {
         None => next_two(m, tableau),
@@ -106,7 +84,7 @@ fn next_two<T: Tableau>(m: usize, tableau: &T) -> Result<Due, PastQuotient>
     requires usable { IsUsable (T.meaning tableau.now) }
     requires rows { m ≡ length (T.meaning tableau.now).table.basis }
     requires small { m + 1 < 2 ^ 64 }
-    ensures { heard result ≡ told (T.meaning tableau.now).table (due_two (T.meaning tableau.now).table) }
+    ensures { result ≡ told (T.meaning tableau.now).table (due_two (T.meaning tableau.now).table) }
 {
     match tableau.entering(m + 1) {
         None => Ok(Due::End(Ending::Optimal)),

@@ -8,8 +8,9 @@ ghost use Rattle.dc_lp.specs.Meanings.{IsUsable, IsPivotPlace, resting, start, p
 ghost use Rattle.dc_simplex.specs.Steps.{Runs};
 
 use crate::SolveFault;
-use crate::next::{Due, Ending, Phase, next_due};
+use crate::next::next_due;
 use dc_lp::{Problem, Tableau};
+use dc_pivots::{Due, Ending, Phase};
 
 /// Loads a problem and runs it to its end, which comes with the number of pivots.
 pub fn load_and_run<T: Tableau>(

@@ -10,12 +10,12 @@ ghost use Rattle.dc_lp.specs.Verdicts.{columns};
 ghost use Rattle.dc_lp.specs.Meanings.{IsUsable, height};
 ghost use Rattle.dc_pivots.specs.Vectors.{basic_row, entry_or_zero};
 ghost use Rattle.dc_simplex.specs.Outcomes.{IsVector, TellsEnd, pivots_of, solution_at, direction_at, multiplier_at};
-ghost use Rattle.dc_simplex.specs.Steps.{ending_of, IsAlong};
+ghost use Rattle.dc_simplex.specs.Steps.{IsAlong};
 
 use crate::Outcome;
-use crate::next::Ending;
 use dc_frac::Frac;
 use dc_lp::{Problem, Tableau};
+use dc_pivots::Ending;
 use std::alloc::{AllocError, Global};
 
 /// The outcome of a run that ended so after so many pivots.
@@ -31,7 +31,7 @@ pub fn outcome<T: Tableau>(
     requires rows { p.now.rows ≡ length (T.meaning tableau.now).table.basis }
     requires columns { columns p.now ≡ (T.meaning tableau.now).table.real }
     requires along { IsAlong (columns p.now) ending }
-    ensures vectors { IfOk result (λ o. TellsEnd (linear_of p.now) (T.meaning tableau.now).table (ending_of ending) o) }
+    ensures vectors { IfOk result (λ o. TellsEnd (linear_of p.now) (T.meaning tableau.now).table ending o) }
     ensures pivots { IfOk result (λ o. pivots_of o ≡ pivots) }
 {
     let m = p.rows;

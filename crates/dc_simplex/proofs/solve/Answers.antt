@@ -35,3 +35,7 @@ pub returns-in-Ok-outcome-clause-opposites : goal.returns-in-Ok-outcome-clause-o
 returns-in-Ok-outcome-clause-opposites g c =
     opposites (linear_of c.args.p.now) c.args.budget (g.T.Tableau.meaning c.load_and_run.new.tableau) c.in-Ok-outcome.outcome
     (solves-ok (linear_of c.args.p.now) c.args.budget (g.T.Tableau.meaning c.load_and_run.new.tableau) c.in-Ok.end.0 c.in-Ok.end.1 c.in-Ok-outcome.outcome c.in-Ok.ensures c.in-Ok-outcome.ensures.vectors c.in-Ok-outcome.ensures.pivots)
+
+pub returns-in-Ok-outcome-clause-answer : goal.returns-in-Ok-outcome-clause-answer
+returns-in-Ok-outcome-clause-answer g c =
+    solves-ok (linear_of c.args.p.now) c.args.budget (g.T.Tableau.meaning c.load_and_run.new.tableau) c.in-Ok.end.0 c.in-Ok.end.1 c.in-Ok-outcome.outcome c.in-Ok.ensures c.in-Ok-outcome.ensures.vectors c.in-Ok-outcome.ensures.pivots

@@ -1,6 +1,6 @@
 use Rattle.std.proofs.Common.{sym, ◌∙◌, subst₂}
 use Rattle.dc_lp.specs.Problems.{IsColumn}
-use Rattle.dc_lp.specs.Columns.{entries-at}
+use Rattle.dc_lp.proofs.Columns.{entries-at}
 use Rattle.dc_lp.proofs.check.is_priced.Goals as goal
 
 pub price-requires : goal.price-requires

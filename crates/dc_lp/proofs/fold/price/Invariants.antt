@@ -1,7 +1,7 @@
 use Rattle.std.proofs.Common.{◌≡◌, Some}
 use Rattle.dc_frac.specs.Value.{value}
 use Rattle.dc_lp.specs.Problems.{coefficient_in}
-use Rattle.dc_lp.specs.Columns.{row_after}
+use Rattle.dc_lp.proofs.Columns.{row_after}
 use Rattle.dc_lp.specs.Folds.{folded, numbers}
 use Rattle.dc_lp.proofs.fold.price.Given as goal
 

@@ -1,4 +1,4 @@
-use Rattle.dc_lp.specs.Duality.{weak, best}
+use Rattle.dc_lp.proofs.Duality.{weak, best}
 use Rattle.dc_lp.proofs.laws.duality.Goals as goal
 
 pub returns-clause-weak : goal.returns-clause-weak

@@ -1,4 +1,4 @@
-use Rattle.dc_lp.specs.Duality.{ray}
+use Rattle.dc_lp.proofs.Duality.{ray}
 use Rattle.dc_lp.proofs.laws.ray.Goals as goal
 
 pub returns : goal.returns

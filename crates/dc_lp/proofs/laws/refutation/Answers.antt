@@ -1,4 +1,4 @@
-use Rattle.dc_lp.specs.Duality.{excludes}
+use Rattle.dc_lp.proofs.Duality.{excludes}
 use Rattle.dc_lp.proofs.laws.refutation.Goals as goal
 
 pub returns : goal.returns

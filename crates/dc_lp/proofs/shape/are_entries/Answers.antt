@@ -1,6 +1,6 @@
 use Rattle.std.proofs.Common.{◌≢◌, arith, rules, pos, sym, ◌∙◌, ap, add-one, get_or}
 use Rattle.dc_lp.specs.declared.Entry.{Entry}
-use Rattle.dc_lp.specs.Columns.{next, row_after, row_after-next, AreEntries-more}
+use Rattle.dc_lp.proofs.Columns.{next, row_after, row_after-next, AreEntries-more}
 use Rattle.dc_lp.proofs.shape.are_entries.Goals as goal
 use Rattle.dc_lp.proofs.shape.are_entries.Goals.{then-e-low-via-then-e-low, then-e-low-via-else-e-low+then-e-rows, then-e-low-via-else-e-low+else-e-rows+then-e-eq0}
 

@@ -1,6 +1,6 @@
 use Rattle.std.proofs.Common.{◌≡◌, take}
 use Rattle.dc_lp.specs.Problems.{AreEntries}
-use Rattle.dc_lp.specs.Columns.{row_after}
+use Rattle.dc_lp.proofs.Columns.{row_after}
 use Rattle.dc_lp.proofs.shape.are_entries.Given as goal
 
 abbrev pub invariant-loop-e : goal.invariant-loop-e

@@ -1,6 +1,5 @@
 use Rattle.std.proofs.Common.{refl, rules}
 use Rattle.dc_lp.specs.Problems.{linear_of}
-use Rattle.dc_simplex.specs.Steps.{phase_of}
 use Rattle.dc_simplex.proofs.Steps.{here-begun, here-more, here-place}
 use Rattle.dc_simplex.proofs.run.run.Goals as goal
 
@@ -10,7 +9,7 @@ loop-ending-init g c = here-begun c.args.p.now c.args.budget c.args.p.now.rows c
 pub change-requires-clause-place : goal.change-requires-clause-place
 change-requires-clause-place g c =
     here-place (linear_of c.args.p.now) c.args.budget c.args.p.now.rows c.len-n.result c.loop-ending.pivots c.loop-ending.phase (g.T.Tableau.meaning c.loop-ending.tableau) c.loop-ending.invariant
-    (phase_of c.in-Ok-Pivot.next) c.in-Ok-Pivot.row c.in-Ok-Pivot.col (rw c.in-Ok-Pivot.field-0-is at c.in-Ok-Pivot.ensures)
+    c.in-Ok-Pivot.next c.in-Ok-Pivot.row c.in-Ok-Pivot.col (rw c.in-Ok-Pivot.field-0-is at c.in-Ok-Pivot.ensures)
 
 pub loop-ending-preserved : goal.loop-ending-preserved
 loop-ending-preserved g c =

@@ -19,7 +19,7 @@ fit : (d : Dense) (row col : ℕ) → d.loaded ≡ true → IsPivotPlace (dense_
 fit d row col loaded h =
     let s : IsShaped d.rows d.columns d.width (vec_len d.basis) (vec_len d.items) = d.shape loaded in
     let r : row < length d.basis.items = h.row in
-    let c : col < d.columns = h.column in
+    let c : col < d.columns + length d.basis.items + 1 = h.column in
     record { tall = omega (arith, d.basis.ok.0); wide = omega (arith, d.basis.ok.0); inside = omega (arith, d.basis.ok.0); column = omega (arith, d.basis.ok.0) }
 
 nonzero : (d : Dense) (row col : ℕ) → d.loaded ≡ true → IsPivotPlace (dense_meaning d).table row col → is_zero (item d.items.items (row * d.width + col)) ≡ false

@@ -12,7 +12,7 @@ use Rattle.dc_math.specs.Order.{*ℚ_zero}
 use Rattle.dc_math.specs.Tests.{eq_ℚ-true, eq_ℚ_true, eq_ℚ_false}
 use Rattle.dc_lp.specs.Tables as tables
 use Rattle.dc_lp.specs.Tables.{Table}
-use Rattle.dc_lp.specs.FieldTests.{zero_test}
+use Rattle.dc_lp.proofs.FieldTests.{zero_test}
 use Rattle.dc_lp.specs.Meanings.{at, is_zero, height, width, pivoted, divided, IsPivotPlace}
 use Rattle.dc_lp.specs.Fill.{is_filled, meets_gap, count_below, count_places, fill, gaps}
 use Rattle.dc_lp.specs.Laws.{Fills}

@@ -26,3 +26,10 @@ all_below-fails test i (suc n) e lt =
 pub all_below-same : (n : ℕ) (f g : ℕ → Bool) → ((k : ℕ) → k < n → f k ≡ g k) → all_below n f ≡ all_below n g
 all_below-same zero f g h = refl
 all_below-same (suc n) f g h = rw (all_below-same n f g (λ k l. h k (omega arith)), h n (omega arith)) refl
+
+pub all_below-false_first : (n : ℕ) (test : ℕ → Bool) → all_below (suc n) test ≡ false → test n ≡ true → all_below n test ≡ false
+all_below-false_first n test e h =
+    elim (cases_Bool (all_below n test)) [
+      | inl b ↦ (let f : true ≡ false = rw (b, h) at e in absurd (cc))
+      | inr b ↦ b
+    ]
