@@ -26,7 +26,8 @@ use Rattle.dc_poly.proofs.Padded.{Places-plus, Places-negated}
 use Rattle.dc_affine.specs.declared.atom.Atom.{Atom}
 use Rattle.dc_affine.specs.declared.form.FormFault.{FormFault}
 use Rattle.dc_affine.specs.declared.form.FormFault.TheVariants.{NotAffine, CoefficientRange}
-use Rattle.dc_affine.specs.Forms.{most, formed, is_below, below_step, fault_of, coefs_fit}
+use Rattle.dc_poly.specs.NormalForm.{most, coefs_fit}
+use Rattle.dc_affine.specs.Forms.{formed, is_below, below_step, fault_of}
 use Rattle.dc_affine.specs.Table.{Fact, fact, fact_true, all_of, some_of, after, crossed, falsity, relation, opposite, facts_of, facts_step}
 use Rattle.dc_affine.specs.Atoms.{holds_at, all_hold, some_hold, AllFit, IsFullAtom, AllAtoms, AllCases, gap_of, at_least, atom_of, conjunctions_of, gap_fault, comparison_step, comparison_fault, cond_below_step, cond_is_below}
 use Rattle.dc_affine.specs.Gaps.{signed_coef, gap_atom, gap_cases, combined}

@@ -8,7 +8,7 @@ use Rattle.dc_poly.specs.Terms.{Exponents, TermList, same_mono, coef, Canonical}
 use Rattle.dc_poly.proofs.Canon.{coef_ahead, same_mono_is}
 use Rattle.dc_poly.specs.Sums.{negated}
 use Rattle.dc_poly.specs.Terms.{Ahead}
-use Rattle.dc_affine.specs.Forms.{most, coefs_fit}
+use Rattle.dc_poly.specs.NormalForm.{most, coefs_fit}
 use Rattle.dc_affine.specs.Gaps.{signed}
 use Rattle.dc_affine.proofs.FormLaws.{and_both}
 

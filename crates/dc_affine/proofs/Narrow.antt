@@ -8,7 +8,7 @@ use Rattle.dc_poly.specs.Sums.{negation_of}
 use Rattle.dc_poly.specs.Conditions.{CanAdd, CanMul}
 use Rattle.dc_poly.proofs.Sizes.{mul_both, power_more, weight-negated}
 use Rattle.dc_poly.proofs.Degrees.{degree-times}
-use Rattle.dc_affine.specs.Forms.{most, coefs_fit, IsNarrow}
+use Rattle.dc_poly.specs.NormalForm.{most, coefs_fit, IsNormalForm}
 use Rattle.dc_affine.proofs.FormLaws.{and_both}
 
 -- exponents of at most 2 as the digits of a number
@@ -70,7 +70,7 @@ weight_below n b (t ∷ p) c j d f h =
     step : (x w r b : ℕ) → x ≤ most → w ≤ most * r → r < b → x + w ≤ most * b
     step x w r b a h g = omega arith
 
-pub narrow_weight : (p : Polynomial) → IsPolynomial p → IsNarrow p.terms → weight p.terms ≤ 2147483647 * 531441
+pub narrow_weight : (p : Polynomial) → IsPolynomial p → IsNormalForm p.terms → weight p.terms ≤ 2147483647 * 531441
 narrow_weight p k h =
     let a = weight_below p.places (3 * 3 ^ p.places) p.terms k.in_order k.padded h.low h.fits (below_all p.places p.terms h.low) in
     let b : 3 ^ p.places ≤ 3 ^ 11 = power_more 3 p.places 11 (omega arith) k.few in
@@ -79,16 +79,16 @@ narrow_weight p k h =
     last : (w x : ℕ) → w ≤ most * (3 * x) → x ≤ 3 ^ 11 → w ≤ 2147483647 * 531441
     last w x a b = omega arith
 
-pub can_add : (p q : Polynomial) → q.places ≡ p.places → IsPolynomial p × IsPolynomial q → IsNarrow p.terms × IsNarrow q.terms → CanAdd p q
+pub can_add : (p q : Polynomial) → q.places ≡ p.places → IsPolynomial p × IsPolynomial q → IsNormalForm p.terms × IsNormalForm q.terms → CanAdd p q
 can_add p q e k h = record { same_places = e; light = (let a = narrow_weight p k.0 h.0 in let b = narrow_weight q k.1 h.1 in omega arith) }
 
-pub can_subtract : (p q r : Polynomial) → q.places ≡ p.places → IsPolynomial p × IsPolynomial q → IsNarrow p.terms × IsNarrow q.terms → r ≡ negation_of q → CanAdd p r
+pub can_subtract : (p q r : Polynomial) → q.places ≡ p.places → IsPolynomial p × IsPolynomial q → IsNormalForm p.terms × IsNormalForm q.terms → r ≡ negation_of q → CanAdd p r
 can_subtract p q r e k h f = subst (λ x. CanAdd p x) (sym f) (record {
   same_places = e;
   light = (let a = narrow_weight p k.0 h.0 in let b = narrow_weight q k.1 h.1 in let c = weight-negated q.terms in omega arith);
 })
 
-pub can_mul : (p q : Polynomial) → q.places ≡ p.places → IsPolynomial p × IsPolynomial q → IsNarrow p.terms × IsNarrow q.terms → CanMul p q
+pub can_mul : (p q : Polynomial) → q.places ≡ p.places → IsPolynomial p × IsPolynomial q → IsNormalForm p.terms × IsNormalForm q.terms → CanMul p q
 can_mul p q e k h = record {
   same_places = e;
   low = (let a = h.0.low in let b = h.1.low in let d = degree-times p.terms q.terms in omega arith);

@@ -15,7 +15,8 @@ use Rattle.dc_poly.specs.Affine.{units}
 use Rattle.dc_affine.specs.declared.atom.Atom.{Atom}
 use Rattle.dc_affine.specs.declared.form.FormFault.{FormFault}
 use Rattle.dc_affine.specs.declared.form.FormFault.TheVariants.{NotAffine, ConditionTooWide}
-use Rattle.dc_affine.specs.Forms.{most, is_below, formed, fault_of, range_fault}
+use Rattle.dc_poly.specs.NormalForm.{most}
+use Rattle.dc_affine.specs.Forms.{is_below, formed, fault_of, range_fault}
 use Rattle.dc_affine.specs.Table.{Fact, facts_of}
 
 -- ---- what an atom says

@@ -1,17 +1,14 @@
 -- The polynomial of an expression, and the first fault among its subexpressions.
-use Rattle.std.specs.Prelude.{◌≡◌, ◌⊎◌, ℕ, ◌≤◌, Bool, true, ◌&&◌, ltb, leb, if◌then◌else◌, [], ◌∷◌, pos, unsigned_abs, Some, None}
+use Rattle.std.specs.Prelude.{◌≡◌, ◌⊎◌, ℕ, Bool, true, ◌&&◌, ltb, if◌then◌else◌, pos, Some, None}
 use Rattle.std.specs.declared.option.Option.{Option}
 use Rattle.std.specs.Option.{option_or}
 use Rattle.dc_syntax.specs.declared.tree.Expr.{Expr, Expr-F, fold-Expr}
 use Rattle.dc_syntax.specs.declared.tree.Expr.TheOpen as F
 use Rattle.dc_poly.specs.Terms.{TermList, degree_of, Polynomial, polynomial}
+use Rattle.dc_poly.specs.NormalForm.{coefs_fit}
 use Rattle.dc_poly.specs.Sums.{plus, negated, times, constant_of, variable_of}
 use Rattle.dc_affine.specs.declared.form.FormFault.{FormFault}
 use Rattle.dc_affine.specs.declared.form.FormFault.TheVariants.{DegreeTooHigh, CoefficientRange, NotAffine, NoMemory}
-
--- the largest size of a coefficient
-abbrev pub most : ℕ
-most = 2147483647
 
 -- ---- the variables of an expression are below n
 abbrev pub below_step : ℕ → Expr-F Bool → Bool
@@ -26,11 +23,6 @@ abbrev pub is_below : ℕ → Expr → Bool
 is_below n e = fold-Expr Bool (below_step n) e
 
 -- ---- the bounds of a form
--- each coefficient is at most 2147483647 in size
-abbrev pub coefs_fit : TermList → Bool
-coefs_fit [] = true
-coefs_fit (t ∷ p) = leb (unsigned_abs t.coef) most && coefs_fit p
-
 abbrev pub range_fault : TermList → Option FormFault
 range_fault p = if coefs_fit p then None else Some CoefficientRange
 
@@ -78,8 +70,3 @@ affine_fault n e = option_or (fault_of n e) (bend (formed n e).terms)
 -- a refusal is want of memory, or the fault that is told
 abbrev pub IsCause : FormFault → Option FormFault → Type 0
 IsCause f o = (f ≡ NoMemory) ⊎ (o ≡ Some f)
-
--- the bounds of a form that passed
-pub record IsNarrow (p : TermList) : Type 0 where
-  pub low : degree_of p ≤ 2
-  pub fits : coefs_fit p ≡ true

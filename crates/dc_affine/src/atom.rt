@@ -3,7 +3,7 @@ ghost use Rattle.std.specs.Prelude.{ℕ, ◌≡◌, ◌≤◌, ◌<◌, ◌≤�
 ghost use Rattle.dc_poly.specs.Terms.{IsPolynomial, coef};
 ghost use Rattle.dc_poly.specs.Sums.{unit_at, zeros};
 ghost use Rattle.dc_poly.specs.Affine.{units};
-ghost use Rattle.dc_affine.specs.Forms.{coefs_fit};
+ghost use Rattle.dc_poly.specs.NormalForm.{coefs_fit};
 ghost use Rattle.dc_affine.specs.Atoms.{at_least, cases_of};
 ghost use Rattle.dc_affine.specs.Gaps.{gap_atom, gap_cases, signed_coef};
 

@@ -3,7 +3,8 @@ ghost use Rattle.std.specs.Prelude.{ℕ, ◌≡◌, ◌≤◌, ◌+◌, ◌*◌,
 ghost use Rattle.std.specs.Option.{option_or};
 ghost use Rattle.dc_poly.specs.Terms.{IsPolynomial, degree_of, polynomial};
 ghost use Rattle.dc_syntax.specs.declared.tree.Expr.{Expr as ExprTree};
-ghost use Rattle.dc_affine.specs.Forms.{IsCause, coefs_fit, is_below};
+ghost use Rattle.dc_poly.specs.NormalForm.{coefs_fit};
+ghost use Rattle.dc_affine.specs.Forms.{IsCause, is_below};
 ghost use Rattle.dc_affine.specs.Table.{after, crossed, facts_of, falsity, relation};
 ghost use Rattle.dc_affine.specs.Table.{opposite as opposite_of};
 ghost use Rattle.dc_affine.specs.Atoms.{AllCases, IsFullAtom, atom_of, cases_of, comparison_fault, cond_is_below, conjunctions_of, dnf_fault, gap_of, sides_fault};

@@ -3,7 +3,8 @@ ghost use Rattle.std.specs.Prelude.{ℕ, ◌≡◌, ◌≤◌, ◌^◌, ◌+◌,
 ghost use Rattle.std.specs.Option.{option_or};
 ghost use Rattle.dc_poly.specs.Terms.{IsPolynomial, degree_of};
 ghost use Rattle.dc_poly.specs.Sums.{sum_of, negation_of, product_of};
-ghost use Rattle.dc_affine.specs.Forms.{IsCause, IsNarrow, affine_fault, coefs_fit, fault_of, form_of, is_below, own_fault};
+ghost use Rattle.dc_poly.specs.NormalForm.{IsNormalForm, coefs_fit};
+ghost use Rattle.dc_affine.specs.Forms.{IsCause, affine_fault, fault_of, form_of, is_below, own_fault};
 
 use dc_poly::Poly;
 use dc_syntax::Expr;
@@ -62,7 +63,7 @@ fn judge(form: Poly) -> Result<Poly, FormFault>
     ensures passes { IfOk result (λ p. own_fault p.terms ≡ None) }
     ensures fault { IfErr result (λ f. own_fault form.terms ≡ Some f) }
     ensures kind { IfOk result (λ p. IsPolynomial p) }
-    ensures narrow { IfOk result (λ p. IsNarrow p.terms) }
+    ensures narrow { IfOk result (λ p. IsNormalForm p.terms) }
 {
     if form.degree() > 2 {
         return Err(FormFault::DegreeTooHigh);
@@ -78,7 +79,7 @@ fn judge(form: Poly) -> Result<Poly, FormFault>
 fn sum(alloc: Global, left: &Poly, right: &Poly) -> Result<Poly, AllocError>
     requires places { right.now.places ≡ left.now.places }
     requires kinds { IsPolynomial left.now × IsPolynomial right.now }
-    requires narrow { IsNarrow left.now.terms × IsNarrow right.now.terms }
+    requires narrow { IsNormalForm left.now.terms × IsNormalForm right.now.terms }
     ensures sum { IfOk result (λ p. p ≡ sum_of left.now right.now) }
     ensures kind { IfOk result (λ p. IsPolynomial p) }
 {
@@ -90,7 +91,7 @@ fn sum(alloc: Global, left: &Poly, right: &Poly) -> Result<Poly, AllocError>
 pub(crate) fn difference(alloc: Global, left: &Poly, right: &Poly) -> Result<Poly, AllocError>
     requires places { right.now.places ≡ left.now.places }
     requires kinds { IsPolynomial left.now × IsPolynomial right.now }
-    requires narrow { IsNarrow left.now.terms × IsNarrow right.now.terms }
+    requires narrow { IsNormalForm left.now.terms × IsNormalForm right.now.terms }
     ensures difference { IfOk result (λ p. p ≡ sum_of left.now (negation_of right.now)) }
     ensures kind { IfOk result (λ p. IsPolynomial p) }
 {
@@ -103,7 +104,7 @@ pub(crate) fn difference(alloc: Global, left: &Poly, right: &Poly) -> Result<Pol
 fn product(alloc: Global, left: &Poly, right: &Poly) -> Result<Poly, AllocError>
     requires places { right.now.places ≡ left.now.places }
     requires kinds { IsPolynomial left.now × IsPolynomial right.now }
-    requires narrow { IsNarrow left.now.terms × IsNarrow right.now.terms }
+    requires narrow { IsNormalForm left.now.terms × IsNormalForm right.now.terms }
     ensures product { IfOk result (λ p. p ≡ product_of left.now right.now) }
     ensures kind { IfOk result (λ p. IsPolynomial p) }
 {
@@ -122,7 +123,7 @@ pub fn normal(alloc: Global, e: &Expr, places: usize) -> Result<Poly, FormFault>
     ensures passes { IfOk result (λ p. fault_of places e.now ≡ None) }
     ensures fault { IfErr result (λ f. IsCause f (fault_of places e.now)) }
     ensures kind { IfOk result (λ p. IsPolynomial p) }
-    ensures narrow { IfOk result (λ p. IsNarrow p.terms) }
+    ensures narrow { IfOk result (λ p. IsNormalForm p.terms) }
 {
     let form = match e {
         Expr::Num(value) => Poly::constant(alloc, *value as i128, places)?,
@@ -160,7 +161,7 @@ pub fn affine(alloc: Global, e: &Expr, places: usize) -> Result<Poly, FormFault>
     ensures passes { IfOk result (λ p. affine_fault places e.now ≡ None) }
     ensures fault { IfErr result (λ f. IsCause f (affine_fault places e.now)) }
     ensures kind { IfOk result (λ p. IsPolynomial p) }
-    ensures narrow { IfOk result (λ p. IsNarrow p.terms) }
+    ensures narrow { IfOk result (λ p. IsNormalForm p.terms) }
     ensures low { IfOk result (λ p. degree_of p.terms ≤ 1) }
 {
     let form = normal(alloc, e, places)?;

@@ -16,7 +16,7 @@ use Rattle.dc_frac.proofs.SumLaws.{sum_parts}
 use Rattle.dc_frac.proofs.ProductLaws.{product_parts}
 
 -- ---- tests
-small_true : (z : ℤ) → IsSmall z → is_small z ≡ true
+pub small_true : (z : ℤ) → IsSmall z → is_small z ≡ true
 small_true z h = grind (arith, common_steps)
 
 true_small : (z : ℤ) → is_small z ≡ true → IsSmall z

@@ -8,3 +8,4 @@ pub mod Sizes
 pub mod Orders
 pub mod PairLaws
 pub mod ValueLaws
+pub mod ZeroSums

@@ -16,19 +16,19 @@ pub some_iff : {A : Type 0} (r : Option A) (P Q : Type 0) (v w : A) → (P → Q
 some_iff None P Q v w f g e h = λ q. h (g q)
 some_iff (Some x) P Q v w f g e h = (f h.0, h.1 ∙ e)
 
-times_one : (x : ℤ) → x *ℤ pos 1 ≡ x
+pub times_one : (x : ℤ) → x *ℤ pos 1 ≡ x
 times_one x = omega (arith, ints)
 
-div_one : (x : ℤ) → int_div x (pos 1) ≡ x
+pub div_one : (x : ℤ) → int_div x (pos 1) ≡ x
 div_one x = sym (times_one (int_div x (pos 1))) ∙ exact_quotient x 1 (one_divides x)
   where
     one_divides : (x : ℤ) → 1 ∣ unsigned_abs x
     one_divides x = one-dvd (unsigned_abs x)
 
-gcd_nat_one : (n : ℕ) → gcd n 1 ≡ 1
+pub gcd_nat_one : (n : ℕ) → gcd n 1 ≡ 1
 gcd_nat_one n = eq-one_of_dvd-one (gcd_is n 1).1
 
-gcd_one : (x : ℤ) → gcd_ℤ x (pos 1) ≡ pos 1
+pub gcd_one : (x : ℤ) → gcd_ℤ x (pos 1) ≡ pos 1
 gcd_one x = ap pos (gcd_nat_one (unsigned_abs x))
 
 pub gcd_self : (d : ℤ) → pos 1 ≤ℤ d → gcd_ℤ d d ≡ d

@@ -22,8 +22,9 @@ product_fits x y = fits (x *ℚ y)
 abbrev pub quotient_fits : ℚ → ℚ → Bool
 quotient_fits x y = fits (x *ℚ inverse y)
 
--- ---- the sum rule: with the greatest common divisor g of b and d, a/b + c/d is (a * (d/g) + c * (b/g)) / ((b/g) * d),
--- and of these the numerator and d are divided by their common divisor with g
+-- ---- the sum rule: with the greatest common divisor g of b and d, a/b + c/d is
+-- (a * (d/g) + c * (b/g)) / ((b/g) * d), and of these the numerator and d are divided by their
+-- common divisor with g
 abbrev pub sum_total : ℤ → ℤ → ℤ → ℤ → ℤ → ℤ
 sum_total a b c d g = a *ℤ int_div d g +ℤ c *ℤ int_div b g
 
@@ -35,7 +36,9 @@ sum_den a b c d g = int_div b g *ℤ int_div d (gcd_ℤ (sum_total a b c d g) g)
 
 -- both products, their sum and the denominator are small
 abbrev pub rule_fits : ℤ → ℤ → ℤ → ℤ → ℤ → Bool
-rule_fits a b c d g = is_small (a *ℤ int_div d g) && is_small (c *ℤ int_div b g) && is_small (sum_total a b c d g) && is_small (sum_den a b c d g)
+rule_fits a b c d g =
+    is_small (a *ℤ int_div d g) && is_small (c *ℤ int_div b g)
+    && is_small (sum_total a b c d g) && is_small (sum_den a b c d g)
 
 abbrev pub parts_fit : Fraction → Fraction → Bool
 parts_fit p q = rule_fits p.num p.den q.num q.den (gcd_ℤ p.den q.den)

@@ -35,7 +35,8 @@ pub record ApartFits (a b c d : ℤ) : Type 0 where
 abbrev pub apart_pair : ℤ → ℤ → ℤ → ℤ → ℤ × ℤ
 apart_pair a b c d = (a *ℤ d +ℤ c *ℤ b, b *ℤ d)
 
--- the product of a/b and c/d, each numerator divided by its common divisor with the other's denominator
+-- the product of a/b and c/d, each numerator divided by its common divisor with the other's
+-- denominator
 abbrev pub product_num : ℤ → ℤ → ℤ → ℤ → ℤ
 product_num a b c d = int_div a (gcd_ℤ a d) *ℤ int_div c (gcd_ℤ c b)
 

@@ -1,6 +1,7 @@
-//! Laws of pairs of whole numbers that need not be reduced: what their sums, products and order obey.
+//! Laws of pairs of whole numbers that need not be reduced, and of what fits. Each function has no code:
+//! what it ensures is the law.
 
-ghost use Rattle.dc_frac.specs.Laws.{Equality, Sums, Products, Order, Numbers, LowestTerms, Floors, CommonDivisors};
+ghost use Rattle.dc_frac.specs.Laws.{Equality, Sums, Products, Order, Numbers, LowestTerms, Floors, CommonDivisors, ZeroSums};
 
 /// Equality of pairs is one, and sums, products and order go by it.
 pub fn equality()
@@ -40,4 +41,9 @@ pub fn floors()
 /// The greatest common divisor divides both numbers, and each common divisor divides it.
 pub fn common_divisors()
     ensures { CommonDivisors }
+{}
+
+/// A sum or a difference with 0 fits exactly where the other number does, as each fraction does.
+pub fn sums_with_zero()
+    ensures { ZeroSums }
 {}

@@ -1,23 +1,22 @@
--- The number of choices: Pascal's rule, and the law by which one division gives the next number.
+-- The number of choices goes by Pascal's rule, so one division gives the next number.
 use Rattle.std.specs.Prelude.{◌≡◌, ℕ, zero, suc, ◌+◌, ◌*◌, ◌≤◌, List, [], ◌∷◌, map, length, refl}
 use Rattle.std.proofs.Common.{◌∙◌, ap, ap₂, arith, length-append}
+use Rattle.dc_math.specs.OrderedLists.{length-map}
+use Rattle.dc_math.specs.Pascal as pascals
+use Rattle.dc_math.specs.Pascal.{IsPascal}
 use Rattle.dc_poly.proofs.Sizes.{mul_both}
 use Rattle.dc_handelman.specs.Choices.{Choice, widened, of_size, below, choices_of}
-
-length-mapped : (f : Choice → Choice) (xs : List Choice) → length (map f xs) ≡ length xs
-length-mapped f [] = refl
-length-mapped f (x ∷ xs) = ap suc (length-mapped f xs)
 
 -- the number does not depend on where the numbers begin
 widened-same : (a b : ℕ) (f g : ℕ → List Choice) → ((k : ℕ) → length (f k) ≡ length (g k)) → (k : ℕ) → length (widened a f k) ≡ length (widened b g k)
 widened-same a b f g h zero = refl
 widened-same a b f g h (suc k) =
     length-append (map (λ c. a ∷ c) (widened a f k)) (f (suc k))
-    ∙ ap₂ ◌+◌ (length-mapped (λ c. a ∷ c) (widened a f k) ∙ widened-same a b f g h k) (h (suc k))
+    ∙ ap₂ ◌+◌ (length-map (λ c. a ∷ c) (widened a f k) ∙ widened-same a b f g h k) (h (suc k))
     ∙ back
   where
     back : length (widened b g k) + length (g (suc k)) ≡ length (widened b g (suc k))
-    back = (let x = length-append (map (λ c. b ∷ c) (widened b g k)) (g (suc k)) in let y = length-mapped (λ c. b ∷ c) (widened b g k) in omega arith)
+    back = (let x = length-append (map (λ c. b ∷ c) (widened b g k)) (g (suc k)) in let y = length-map (λ c. b ∷ c) (widened b g k) in omega arith)
 
 same : (n a b k : ℕ) → length (of_size n a k) ≡ length (of_size n b k)
 same zero a b zero = refl
@@ -30,7 +29,7 @@ below_more n k = length-append (below n k) (of_size n 0 k)
 next_more : (n k : ℕ) → length (of_size (suc n) 0 (suc k)) ≡ length (of_size (suc n) 0 k) + length (of_size n 0 (suc k))
 next_more n k =
     let a = length-append (map (λ c. 0 ∷ c) (of_size (suc n) 0 k)) (of_size n 1 (suc k)) in
-    let b = length-mapped (λ c. 0 ∷ c) (of_size (suc n) 0 k) in
+    let b = length-map (λ c. 0 ∷ c) (of_size (suc n) 0 k) in
     let d = same n 1 0 (suc k) in
     omega arith
 
@@ -43,8 +42,8 @@ level_is : (n k : ℕ) → length (of_size (suc n) 0 k) ≡ length (choices_of n
 level_is n zero = let a = none_taken n in let b = below_more n 0 in omega arith
 level_is n (suc k) = let a = next_more n k in let b = below_more n (suc k) in let c = level_is n k in omega arith
 
-pascal : (n k : ℕ) → length (choices_of (suc n) (suc k)) ≡ length (choices_of (suc n) k) + length (choices_of n (suc k))
-pascal n k = let a = below_more (suc n) (suc k) in let b = level_is n (suc k) in omega arith
+rule : (n k : ℕ) → length (choices_of (suc n) (suc k)) ≡ length (choices_of (suc n) k) + length (choices_of n (suc k))
+rule n k = let a = below_more (suc n) (suc k) in let b = level_is n (suc k) in omega arith
 
 no_numbers : (k : ℕ) → length (choices_of 0 k) ≡ 1
 no_numbers zero = refl
@@ -54,25 +53,11 @@ pub no_factors : (n : ℕ) → length (choices_of n 0) ≡ 1
 no_factors zero = refl
 no_factors (suc n) = let a = below_more (suc n) 0 in let b = level_is n 0 in let c = no_factors n in omega arith
 
--- ---- the number for one factor more, or for one number more, by a product
-up : (n k x y w : ℕ) → suc k * y ≡ suc (n + k) * x → suc n * w ≡ suc (n + k) * x → suc k * (w + y) ≡ suc (suc n + k) * w
-up n k x y w f g = omega arith
-
-wide : (n k x y w : ℕ) → suc k * y ≡ suc (n + k) * x → suc n * w ≡ suc (n + k) * x → suc n * (w + y) ≡ suc (n + suc k) * y
-wide n k x y w f g = omega arith
-
-wider : (n : ℕ) → ((k : ℕ) → suc k * length (choices_of n (suc k)) ≡ suc (n + k) * length (choices_of n k))
-    → (k : ℕ) → suc n * length (choices_of (suc n) k) ≡ suc (n + k) * length (choices_of n k)
-wider n h zero = let a = no_factors n in let b = no_factors (suc n) in rw (a, b) (omega arith)
-wider n h (suc k) =
-    ap (λ z. suc n * z) (pascal n k)
-    ∙ wide n k (length (choices_of n k)) (length (choices_of n (suc k))) (length (choices_of (suc n) k)) (h k) (wider n h k)
+abbrev count : ℕ → ℕ → ℕ
+count n k = length (choices_of n k)
 
 pub higher : (n k : ℕ) → suc k * length (choices_of n (suc k)) ≡ suc (n + k) * length (choices_of n k)
-higher zero k = let a = no_numbers k in let b = no_numbers (suc k) in rw (a, b) (omega arith)
-higher (suc n) k =
-    ap (λ z. suc k * z) (pascal n k)
-    ∙ up n k (length (choices_of n k)) (length (choices_of n (suc k))) (length (choices_of (suc n) k)) (higher n k) (wider n (higher n) k)
+higher n k = pascals.higher count (record { none = no_numbers; empty = no_factors; rule = rule }) n k
 
 -- ---- a bound for the numbers that are asked for
 next_small : (n k x y : ℕ) → n ≤ 2048 → k ≤ 2 → suc k * y ≡ suc (n + k) * x → y ≤ 2051 * x

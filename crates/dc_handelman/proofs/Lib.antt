@@ -3,3 +3,4 @@ pub mod Counts
 pub mod Listed
 pub mod Orders
 pub mod Values
+pub mod Reordered

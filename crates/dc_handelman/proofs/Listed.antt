@@ -5,7 +5,8 @@ use Rattle.std.proofs.Common.{ap, subst, arith, inl, inr}
 use Rattle.std.proofs.lemmas.Bool.{cases_lt}
 use Rattle.std.proofs.lemmas.List.Elements.{All-from_recursion, recursion_from_All}
 use Rattle.dc_handelman.specs.Choices.{Choice, Rises, IsChoice, Before, fewer, level, AreChoices, AreFixed, widened, of_size, below, choices_of}
-use Rattle.dc_handelman.proofs.Orders.{Ordered, In, each-append, each-map, each-weaker, each-in, ordered-append, ordered-map, in-append_left, in-append_right, in-map, same_members, in_contained, contained_in, pairs_ordered, ordered_pairs}
+use Rattle.dc_math.specs.OrderedLists.{Ordered, In, each-append, each-map, each-weaker, each-in, ordered-append, ordered-map, in-append_left, in-append_right, in-map, same_members, in_contained, contained_in, pairs_ordered, ordered_pairs}
+use Rattle.dc_handelman.proofs.Orders.{strict}
 
 -- k numbers, from low on and below n
 pub record IsExact (n low k : ℕ) (c : Choice) : Type 0 where
@@ -40,15 +41,15 @@ with-first : (n low k : ℕ) (c d : Choice) → IsExact n low k c → IsExact n 
 with-first n low k c [] h g = absurd (let l = g.size in omega arith)
 with-first n low k c (i ∷ d) h g = level (let a = h.size in let b = g.size in omega arith) (inl (let l = g.rises.0 in omega arith))
 
-widened-ordered : (n low : ℕ) (f : ℕ → List Choice) → low < n → ((k : ℕ) → AllByRecursion (IsExact n (suc low) k) (f k)) → ((k : ℕ) → Ordered (f k)) → (k : ℕ) → Ordered (widened low f k)
+widened-ordered : (n low : ℕ) (f : ℕ → List Choice) → low < n → ((k : ℕ) → AllByRecursion (IsExact n (suc low) k) (f k)) → ((k : ℕ) → Ordered Before (f k)) → (k : ℕ) → Ordered Before (widened low f k)
 widened-ordered n low f l h o zero = (tt, tt)
 widened-ordered n low f l h o (suc k) =
-    ordered-append (map (λ c. low ∷ c) (widened low f k)) (f (suc k))
-    (ordered-map (λ c. low ∷ c) (with-before low) (widened low f k) (widened-ordered n low f l h o k)) (o (suc k))
+    ordered-append Before (map (λ c. low ∷ c) (widened low f k)) (f (suc k))
+    (ordered-map Before (IsExact n low k) (λ c. low ∷ c) (λ c d g j. with-before low c d) (widened low f k) (widened-exact n low f l h k) (widened-ordered n low f l h o k)) (o (suc k))
     (each-map (IsExact n low k) (λ x. AllByRecursion (Before x) (f (suc k))) (λ c. low ∷ c)
     (λ c g. each-weaker (IsExact n (suc low) (suc k)) (Before (low ∷ c)) (λ d j. with-first n low k c d g j) (f (suc k)) (h (suc k))) (widened low f k) (widened-exact n low f l h k))
 
-ordered : (more low n k : ℕ) → n ≡ more + low → Ordered (of_size more low k)
+ordered : (more low n k : ℕ) → n ≡ more + low → Ordered Before (of_size more low k)
 ordered zero low n zero e = (tt, tt)
 ordered zero low n (suc k) e = tt
 ordered (suc more) low n k e =
@@ -87,10 +88,10 @@ below-only n (suc k) =
     (each-weaker (IsBelow n k) (IsBelow n (suc k)) (λ c h. record { few = (let l = h.few in omega arith); rises = h.rises }) (below n k) (below-only n k))
     (each-weaker (IsExact n 0 k) (IsBelow n (suc k)) (λ c h. record { few = (let l = h.size in omega arith); rises = h.rises }) (of_size n 0 k) (exact n 0 n k (omega arith)))
 
-below-ordered : (n k : ℕ) → Ordered (below n k)
+below-ordered : (n k : ℕ) → Ordered Before (below n k)
 below-ordered n zero = tt
 below-ordered n (suc k) =
-    ordered-append (below n k) (of_size n 0 k) (below-ordered n k) (ordered n 0 n k (omega arith))
+    ordered-append Before (below n k) (of_size n 0 k) (below-ordered n k) (ordered n 0 n k (omega arith))
     (each-weaker (IsBelow n k) (λ x. AllByRecursion (Before x) (of_size n 0 k))
     (λ c h. each-weaker (IsExact n 0 k) (Before c) (λ d g. fewer (let a = h.few in let b = g.size in omega arith)) (of_size n 0 k) (exact n 0 n k (omega arith))) (below n k) (below-only n k))
 
@@ -107,11 +108,11 @@ pub are_choices : (n k : ℕ) → AreChoices n k (choices_of n k)
 are_choices n k = record {
   only = All-from_recursion (IsChoice n k) (choices_of n k) (each-weaker (IsBelow n (suc k)) (IsChoice n k) (λ c h. record { few = (let l = h.few in omega arith); rises = h.rises }) (choices_of n k) (below-only n (suc k)));
   each = (λ c h. contained_in c (choices_of n k) (below-every n (suc k) c h.rises (let l = h.few in omega arith)));
-  in_order = pairs_ordered (choices_of n k) (below-ordered n (suc k));
+  in_order = pairs_ordered Before (choices_of n k) (below-ordered n (suc k));
 }
 
 pub are_fixed : AreFixed
-are_fixed n k cs ds h g = same_members cs ds (ordered_pairs cs h.in_order) (ordered_pairs ds g.in_order) (within cs ds h g) (within ds cs g h)
+are_fixed n k cs ds h g = same_members Before strict cs ds (ordered_pairs Before cs h.in_order) (ordered_pairs Before ds g.in_order) (within cs ds h g) (within ds cs g h)
   where
     within : (cs ds : List Choice) → AreChoices n k cs → AreChoices n k ds → (c : Choice) → In c cs → In c ds
     within cs ds h g c i = in_contained c ds (g.each c (each-in (IsChoice n k) c cs (recursion_from_All (IsChoice n k) cs h.only) i))

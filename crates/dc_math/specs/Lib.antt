@@ -20,3 +20,5 @@ pub mod FieldSums
 pub mod FieldOrder
 pub mod RationalField
 pub mod Sums
+pub mod OrderedLists
+pub mod Pascal

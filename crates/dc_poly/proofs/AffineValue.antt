@@ -4,8 +4,10 @@ use Rattle.std.proofs.Common.{sym, ◌∙◌, ap, ap₂, arith}
 use Rattle.std.proofs.lemmas.Int.{ints}
 use Rattle.dc_math.specs.WholeRing.{ring, reads, read_nat, same_form}
 use Rattle.dc_poly.specs.Terms.{Exponents, TermList, front, others, mono_value, value, same_mono, coef, degree}
-use Rattle.dc_poly.specs.Sums.{zeros}
-use Rattle.dc_poly.specs.Affine.{units, along, Affine}
+use Rattle.dc_poly.specs.Sums.{zeros, plus}
+use Rattle.dc_poly.specs.Affine.{units, along, Affine, scaled_value}
+use Rattle.dc_math.specs.WholeVectors.{scale_ℤ}
+use Rattle.dc_poly.proofs.Values.{coef-plus}
 
 along-map : (f : Exponents → ℤ) (us : List Exponents) (s : List ℤ) → along f (map (λ u. 0 ∷ u) us) s ≡ along (λ u. f (0 ∷ u)) us s
 along-map f [] s = refl
@@ -66,3 +68,46 @@ affine_value n (t ∷ p) s h =
   where
     sums : (v w x y z k l : ℤ) → v ≡ x +ℤ k → w ≡ y +ℤ l → z ≡ k +ℤ l → v +ℤ w ≡ (x +ℤ y) +ℤ z
     sums v w x y z k l e f g = omega (arith, ints)
+
+-- ---- at rational points
+pub scaled_one : (n : ℕ) (p : TermList) (xs : List ℤ) → Affine n p → scaled_value n p (pos 1) xs ≡ value p xs
+scaled_one n p xs h = ap (λ y. y +ℤ along (coef p) (units n) xs) (by_one (coef p (zeros n))) ∙ sym (affine_value n p xs h)
+  where
+    by_one : (y : ℤ) → y *ℤ pos 1 ≡ y
+    by_one y = ring (y ∷ []) (λ ρ i. simp (i, read_nat ρ, reads) (same_form _ _ _ refl))
+
+front-scaled : (k : ℤ) (xs : List ℤ) → front (scale_ℤ k xs) ≡ k *ℤ front xs
+front-scaled k [] = sym (ring (k ∷ []) (λ ρ i. simp (i, read_nat ρ, reads) (same_form _ _ _ refl)))
+front-scaled k (x ∷ xs) = refl
+
+others-scaled : (k : ℤ) (xs : List ℤ) → others (scale_ℤ k xs) ≡ scale_ℤ k (others xs)
+others-scaled k [] = refl
+others-scaled k (x ∷ xs) = refl
+
+along-scaled : (f : Exponents → ℤ) (us : List Exponents) (k : ℤ) (xs : List ℤ) → along f us (scale_ℤ k xs) ≡ k *ℤ along f us xs
+along-scaled f [] k xs = sym (ring (k ∷ []) (λ ρ i. simp (i, read_nat ρ, reads) (same_form _ _ _ refl)))
+along-scaled f (u ∷ us) k xs =
+    ap₂ (λ x y. f u *ℤ x +ℤ along f us y) (front-scaled k xs) (others-scaled k xs)
+    ∙ shape (f u) (front xs) k (along f us (others xs)) _ (along-scaled f us k (others xs))
+  where
+    shape : (a x k y z : ℤ) → z ≡ k *ℤ y → a *ℤ (k *ℤ x) +ℤ z ≡ k *ℤ (a *ℤ x +ℤ y)
+    shape a x k y z e = rw e (ring (a ∷ x ∷ k ∷ y ∷ []) (λ ρ h i j l. simp (h, i, j, l, reads) (same_form _ _ _ refl)))
+
+pub scaled_multiple : (n : ℕ) (p : TermList) (k q : ℤ) (xs : List ℤ) → scaled_value n p (k *ℤ q) (scale_ℤ k xs) ≡ k *ℤ scaled_value n p q xs
+scaled_multiple n p k q xs = shape (coef p (zeros n)) k q (along (coef p) (units n) xs) _ (along-scaled (coef p) (units n) k xs)
+  where
+    shape : (c k q y z : ℤ) → z ≡ k *ℤ y → c *ℤ (k *ℤ q) +ℤ z ≡ k *ℤ (c *ℤ q +ℤ y)
+    shape c k q y z e = rw e (ring (c ∷ k ∷ q ∷ y ∷ []) (λ ρ h i j l. simp (h, i, j, l, reads) (same_form _ _ _ refl)))
+
+along-same : (f g : Exponents → ℤ) → ((u : Exponents) → f u ≡ g u) → (us : List Exponents) (xs : List ℤ) → along f us xs ≡ along g us xs
+along-same f g e [] xs = refl
+along-same f g e (u ∷ us) xs = ap₂ (λ a b. a *ℤ front xs +ℤ b) (e u) (along-same f g e us (others xs))
+
+pub scaled_sum : (n : ℕ) (p r : TermList) (q : ℤ) (xs : List ℤ) → scaled_value n (plus p r) q xs ≡ scaled_value n p q xs +ℤ scaled_value n r q xs
+scaled_sum n p r q xs =
+    ap₂ (λ a b. a *ℤ q +ℤ b) (coef-plus p r (zeros n))
+    (along-same (coef (plus p r)) (λ u. coef p u +ℤ coef r u) (coef-plus p r) (units n) xs ∙ along-add (coef p) (coef r) (units n) xs)
+    ∙ shape (coef p (zeros n)) (coef r (zeros n)) q (along (coef p) (units n) xs) (along (coef r) (units n) xs)
+  where
+    shape : (a b q x y : ℤ) → (a +ℤ b) *ℤ q +ℤ (x +ℤ y) ≡ (a *ℤ q +ℤ x) +ℤ (b *ℤ q +ℤ y)
+    shape a b q x y = ring (a ∷ b ∷ q ∷ x ∷ y ∷ []) (λ ρ h i j l m. simp (h, i, j, l, m, reads) (same_form _ _ _ refl))

@@ -4,6 +4,7 @@ use Rattle.std.proofs.Common.{◌∙◌, ap, ap₂, subst, arith, inl, inr}
 use Rattle.std.specs.declared.cmp.Ordering.{Ordering}
 use Rattle.std.specs.declared.cmp.Ordering.TheVariants as std_order
 use Rattle.std.proofs.lemmas.Bool.{cases_lt, ltb-true, ltb-false}
+use Rattle.dc_math.specs.OrderedLists.{IsStrict}
 use Rattle.dc_poly.specs.Terms.{Exponents, TermList, degree, Greater, Before, lower, level, Ahead}
 use Rattle.dc_poly.specs.Order.{by_first, graded, Told}
 
@@ -100,3 +101,6 @@ graded_told m k = by (ltb (degree m) (degree k)) refl (ltb (degree k) (degree m)
 pub Ahead-more : (m k : Exponents) (p : TermList) → Before m k → Ahead k p → Ahead m p
 Ahead-more m k [] b h = tt
 Ahead-more m k (t ∷ p) b h = (Before-trans m k t.mono b h.0, Ahead-more m k p b h.1)
+
+pub strict : IsStrict Before
+strict = record { not = Before-not; trans = Before-trans }

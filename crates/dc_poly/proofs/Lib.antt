@@ -16,3 +16,8 @@ pub mod One
 pub mod Vanish
 pub mod AffineValue
 pub mod Graded
+pub mod Listed
+pub mod Counts
+pub mod FewTerms
+pub mod Combinations
+pub mod MonomialSums

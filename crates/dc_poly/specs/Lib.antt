@@ -5,3 +5,6 @@ pub mod Laws
 pub mod Order
 pub mod Affine
 pub mod Grid
+pub mod Monomials
+pub mod NormalForm
+pub mod Combinations

@@ -10,7 +10,7 @@ use Rattle.dc_poly.specs.Terms.{Exponents, Polynomial}
 use Rattle.dc_poly.specs.Sums.{zeros, unit_at}
 use Rattle.dc_poly.specs.Affine.{units}
 use Rattle.dc_affine.specs.declared.atom.Atom.{Atom}
-use Rattle.dc_affine.specs.Forms.{most}
+use Rattle.dc_poly.specs.NormalForm.{most}
 use Rattle.dc_affine.specs.Atoms.{AllAtoms}
 use Rattle.dc_affine.proofs.Units.{units_done}
 use Rattle.dc_system.specs.Composed.{coef_at, atom_at, atoms_at, numbers_fit, atom_fits, atoms_fit}

@@ -9,17 +9,18 @@ use Rattle.dc_syntax.proofs.Inductions.{Expr-induction}
 use Rattle.dc_poly.specs.Terms.{TermList, degree_of}
 use Rattle.dc_affine.specs.declared.form.FormFault.{FormFault}
 use Rattle.dc_affine.specs.declared.form.FormFault.TheVariants.{DegreeTooHigh, CoefficientRange, NotAffine}
-use Rattle.dc_affine.specs.Forms.{Formed, formed, form_step, is_below, fault_of, own_fault, bend, affine_fault, coefs_fit, IsNarrow}
+use Rattle.dc_poly.specs.NormalForm.{coefs_fit, IsNormalForm}
+use Rattle.dc_affine.specs.Forms.{Formed, formed, form_step, is_below, fault_of, own_fault, bend, affine_fault}
 use Rattle.dc_system.proofs.Wider.{fault_wider, affine_fault_wider}
 
 none_parts : (o p : Option FormFault) → option_or o p ≡ None → (o ≡ None) × (p ≡ None)
 none_parts None p e = (refl, e)
 none_parts (Some f) p e = cc
 
-own_narrow : (p : TermList) → own_fault p ≡ None → IsNarrow p
+own_narrow : (p : TermList) → own_fault p ≡ None → IsNormalForm p
 own_narrow p e = by (ltb 2 (degree_of p)) refl (coefs_fit p) refl e
   where
-    by : (b : Bool) → ltb 2 (degree_of p) ≡ b → (t : Bool) → coefs_fit p ≡ t → (if b then Some DegreeTooHigh else (if t then None else Some CoefficientRange)) ≡ None → IsNarrow p
+    by : (b : Bool) → ltb 2 (degree_of p) ≡ b → (t : Bool) → coefs_fit p ≡ t → (if b then Some DegreeTooHigh else (if t then None else Some CoefficientRange)) ≡ None → IsNormalForm p
     by true q t r e = cc
     by false q true r e = record { low = ltb-false 2 (degree_of p) q; fits = r }
     by false q false r e = cc
@@ -33,10 +34,10 @@ last_of n (F.Add a b) e = (none_parts (option_or a.fault b.fault) _ e).1
 last_of n (F.Sub a b) e = (none_parts (option_or a.fault b.fault) _ e).1
 last_of n (F.Mul a b) e = (none_parts (option_or a.fault b.fault) _ e).1
 
-pub form_narrow : (n : ℕ) (e : Expr) → fault_of n e ≡ None → IsNarrow (formed n e).terms
-form_narrow n e = Expr-induction (λ e. fault_of n e ≡ None → IsNarrow (formed n e).terms) (λ L h k.
+pub form_narrow : (n : ℕ) (e : Expr) → fault_of n e ≡ None → IsNormalForm (formed n e).terms
+form_narrow n e = Expr-induction (λ e. fault_of n e ≡ None → IsNormalForm (formed n e).terms) (λ L h k.
     let f : formed n (roll-Expr L) ≡ form_step n (map-Expr Expr Formed (formed n) L) = fold-roll-Expr Formed (form_step n) L in
-    subst (λ (x : Formed). IsNarrow x.terms) (sym f) (own_narrow _ (last_of n (map-Expr Expr Formed (formed n) L) (ap (λ (x : Formed). x.fault) (sym f) ∙ k)))) e
+    subst (λ (x : Formed). IsNormalForm x.terms) (sym f) (own_narrow _ (last_of n (map-Expr Expr Formed (formed n) L) (ap (λ (x : Formed). x.fault) (sym f) ∙ k)))) e
 
 bend_low : (p : TermList) → bend p ≡ None → degree_of p ≤ 1
 bend_low p e = by (ltb 1 (degree_of p)) refl e
@@ -45,10 +46,10 @@ bend_low p e = by (ltb 1 (degree_of p)) refl e
     by true q e = cc
     by false q e = ltb-false 1 (degree_of p) q
 
-pub wide_narrow : (n : ℕ) (e : Expr) → is_below n e ≡ true → fault_of n e ≡ None → IsNarrow (formed (n + 1) e).terms
+pub wide_narrow : (n : ℕ) (e : Expr) → is_below n e ≡ true → fault_of n e ≡ None → IsNormalForm (formed (n + 1) e).terms
 wide_narrow n e b h = form_narrow (n + 1) e (fault_wider n e b ∙ h)
 
-pub affine_narrow : (n : ℕ) (e : Expr) → is_below n e ≡ true → affine_fault n e ≡ None → IsNarrow (formed (n + 1) e).terms × (degree_of (formed (n + 1) e).terms ≤ 1)
+pub affine_narrow : (n : ℕ) (e : Expr) → is_below n e ≡ true → affine_fault n e ≡ None → IsNormalForm (formed (n + 1) e).terms × (degree_of (formed (n + 1) e).terms ≤ 1)
 affine_narrow n e b h =
     let p = none_parts (fault_of (n + 1) e) (bend (formed (n + 1) e).terms) (affine_fault_wider n e b ∙ h) in
     (form_narrow (n + 1) e p.0, bend_low (formed (n + 1) e).terms p.1)

@@ -10,7 +10,7 @@ use Rattle.dc_poly.specs.Affine.{units}
 use Rattle.dc_poly.proofs.Values.{Canonical-composed, Canonical-plus}
 use Rattle.dc_poly.proofs.Padded.{AllPadded, Places-composed, Places-plus, Places-variable}
 use Rattle.dc_affine.specs.declared.atom.Atom.{Atom}
-use Rattle.dc_affine.specs.Forms.{most, coefs_fit, IsNarrow}
+use Rattle.dc_poly.specs.NormalForm.{most, coefs_fit, IsNormalForm}
 use Rattle.dc_affine.specs.Atoms.{AllFit, IsAtom, AllAtoms}
 use Rattle.dc_affine.proofs.FormLaws.{and_both}
 use Rattle.dc_affine.proofs.Units.{length-units}
@@ -49,7 +49,7 @@ pub after_padded : (n : ℕ) (e : Edge) → IsEdge n e → AllPadded (places_of 
 after_padded n e h = subst (λ i. AllPadded i (after n e)) (sym (after_places n e h)) (forms_padded (n + 1) e.update (chosen n) h.updates (Places-variable n (n + 1)))
 
 -- ---- forms
-narrow_of : (p : Polynomial) → form_fits p ≡ true → IsNarrow p.terms
+narrow_of : (p : Polynomial) → form_fits p ≡ true → IsNormalForm p.terms
 narrow_of p h = let q = and_both (leb (sums_degree p) 2) (coefs_fit p.terms) h in record { low = leb-true (sums_degree p) 2 q.0; fits = q.1 }
 
 form_at : (n : ℕ) (e : Edge) (p : Polynomial) → n ≤ 10 → IsEdge n e → form_fits (composition_of p (after n e)) ≡ true → IsForm (n + 1) (composition_of p (after n e))

@@ -12,7 +12,8 @@ use Rattle.dc_poly.proofs.Same.{coef-negated}
 use Rattle.dc_poly.proofs.Closed.{is_variable}
 use Rattle.dc_poly.proofs.Degrees.{degree-unit_at}
 use Rattle.dc_affine.specs.declared.atom.Atom.{Atom}
-use Rattle.dc_affine.specs.Forms.{IsNarrow, formed, form_of}
+use Rattle.dc_poly.specs.NormalForm.{IsNormalForm}
+use Rattle.dc_affine.specs.Forms.{formed, form_of}
 use Rattle.dc_affine.specs.Table.{fact}
 use Rattle.dc_affine.specs.Atoms.{gap_of, at_least, atom_of}
 use Rattle.dc_affine.proofs.FormLaws.{formed-Var}
@@ -20,7 +21,7 @@ use Rattle.dc_affine.proofs.Fits.{coef_fits}
 use Rattle.dc_affine.proofs.Narrow.{can_subtract}
 use Rattle.dc_system.specs.Guards.{CanDiffer}
 
-pub variable_narrow : (k n : ℕ) → IsNarrow (variable_of k n)
+pub variable_narrow : (k n : ℕ) → IsNormalForm (variable_of k n)
 variable_narrow k n = record { low = (let d = degree-unit_at n k in omega arith); fits = refl }
 
 one_at_most : (k n : ℕ) (m : Exponents) → unsigned_abs (coef (variable_of k n) m) ≤ 1
@@ -30,7 +31,7 @@ one_at_most k n m = by (same_mono (unit_at n k) m)
     by true = omega arith
     by false = omega arith
 
-pub can_rise : (k n : ℕ) (p q : Polynomial) → n ≤ 11 → p ≡ variable k n → IsPolynomial q → IsNarrow q.terms → q.places ≡ n → CanDiffer p q
+pub can_rise : (k n : ℕ) (p q : Polynomial) → n ≤ 11 → p ≡ variable k n → IsPolynomial q → IsNormalForm q.terms → q.places ≡ n → CanDiffer p q
 can_rise k n p q h e i j l = subst (λ x. CanDiffer x q) (sym e) (record {
   same_places = l;
   kinds = (is_variable k n h, i);
@@ -38,7 +39,7 @@ can_rise k n p q h e i j l = subst (λ x. CanDiffer x q) (sym e) (record {
   small = λ m. let a = one_at_most k n m in let b = coef_fits q.terms m i.in_order j.fits in omega arith;
 })
 
-pub can_fall : (k n : ℕ) (p q : Polynomial) → n ≤ 11 → q ≡ variable k n → IsPolynomial p → IsNarrow p.terms → p.places ≡ n → CanDiffer p q
+pub can_fall : (k n : ℕ) (p q : Polynomial) → n ≤ 11 → q ≡ variable k n → IsPolynomial p → IsNormalForm p.terms → p.places ≡ n → CanDiffer p q
 can_fall k n p q h e i j l = subst (λ x. CanDiffer p x) (sym e) (record {
   same_places = sym l;
   kinds = (i, is_variable k n h);

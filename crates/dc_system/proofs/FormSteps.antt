@@ -8,7 +8,7 @@ use Rattle.dc_poly.specs.Sums.{composition_of, places_of}
 use Rattle.dc_poly.specs.Conditions.{HavePlaces, composed_weight, CanSubst, CanAdd}
 use Rattle.dc_poly.proofs.Degrees.{AllLow, degree-composed}
 use Rattle.dc_poly.proofs.Sizes.{AllLight, mul_both, power_more, weight-composed, composed_weight_light}
-use Rattle.dc_affine.specs.Forms.{most}
+use Rattle.dc_poly.specs.NormalForm.{most}
 use Rattle.dc_system.specs.Shapes.{IsForm}
 use Rattle.dc_system.specs.Composed.{forms_at, form_fits, forms_fit}
 use Rattle.dc_system.specs.Small.{AreValues}

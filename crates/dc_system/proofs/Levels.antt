@@ -19,7 +19,8 @@ use Rattle.dc_poly.proofs.Closed.{Canonical-negated}
 use Rattle.dc_poly.proofs.Canon.{same_mono_is}
 use Rattle.dc_poly.proofs.Degrees.{degree-plus, degree-negated, degree-unit_at}
 use Rattle.dc_poly.proofs.Padded.{Places-plus, Places-negated}
-use Rattle.dc_affine.specs.Forms.{most, Formed, formed, is_below, below_step, affine_fault}
+use Rattle.dc_poly.specs.NormalForm.{most}
+use Rattle.dc_affine.specs.Forms.{Formed, formed, is_below, below_step, affine_fault}
 use Rattle.dc_affine.specs.Table.{Fact, fact, fact_true, all_of, facts_of}
 use Rattle.dc_affine.specs.Atoms.{holds_at, all_hold, AllFit, IsAtom, AllAtoms, gap_of, atom_of, cond_is_below, comparison_fault}
 use Rattle.dc_affine.proofs.FormLaws.{form_value, form_proper, formed-Var}

@@ -10,7 +10,8 @@ use Rattle.dc_poly.specs.Terms.{Exponents, TermList, coef, Places, Polynomial}
 use Rattle.dc_poly.specs.Sums.{zeros, unit_at, constant_of, variable}
 use Rattle.dc_poly.specs.Affine.{units}
 use Rattle.dc_poly.proofs.Closed.{is_constant, is_variable}
-use Rattle.dc_affine.specs.Forms.{formed, form_of, is_below, IsNarrow}
+use Rattle.dc_poly.specs.NormalForm.{IsNormalForm}
+use Rattle.dc_affine.specs.Forms.{formed, form_of, is_below}
 use Rattle.dc_affine.specs.Table.{Fact, fact}
 use Rattle.dc_affine.specs.Atoms.{AllAtoms, atom_of, gap_of}
 use Rattle.dc_affine.proofs.FormLaws.{form_proper}
@@ -41,7 +42,7 @@ use Rattle.dc_system.proofs.Literal.{with_numbers_each}
 pub variable_form : (k n : ℕ) → n ≤ 10 → IsForm (n + 1) (variable k (n + 1))
 variable_form k n h = record { has_places = refl; kind = is_variable k (n + 1) (omega arith); narrow = variable_narrow k (n + 1) }
 
-zero_narrow : (m : ℕ) → IsNarrow (constant_of (pos 0) m)
+zero_narrow : (m : ℕ) → IsNormalForm (constant_of (pos 0) m)
 zero_narrow m = record { low = omega arith; fits = refl }
 
 free_form : (n : ℕ) → n ≤ 10 → IsForm (n + 1) (free n)

@@ -7,7 +7,7 @@ use Rattle.std.proofs.lemmas.Bool.{cases_lt}
 use Rattle.std.proofs.lemmas.List.{drop_more, drop_all}
 use Rattle.dc_poly.specs.Terms.{Exponents, coef, Polynomial}
 use Rattle.dc_poly.proofs.Sizes.{mul_both}
-use Rattle.dc_affine.specs.Forms.{most}
+use Rattle.dc_poly.specs.NormalForm.{most}
 use Rattle.dc_affine.specs.Atoms.{AllFit}
 use Rattle.dc_system.specs.Composed.{coef_at}
 

@@ -18,7 +18,8 @@ use Rattle.dc_poly.specs.Terms.{Exponents, TermList, term, same_mono, coef, powe
 use Rattle.dc_poly.proofs.Unique.{values_unique}
 use Rattle.dc_affine.specs.declared.form.FormFault.{FormFault}
 use Rattle.dc_affine.specs.declared.form.FormFault.TheVariants.{NoMemory}
-use Rattle.dc_affine.specs.Forms.{most, Formed, formed, form_step, fault_of, own_fault, affine_fault, bend, coefs_fit, is_below, below_step, IsCause}
+use Rattle.dc_poly.specs.NormalForm.{most, coefs_fit}
+use Rattle.dc_affine.specs.Forms.{Formed, formed, form_step, fault_of, own_fault, affine_fault, bend, is_below, below_step, IsCause}
 use Rattle.dc_affine.specs.Atoms.{gap_of, gap_fault, comparison_fault, comparison_step, width_fault, dnf_fault, cond_is_below, cond_below_step}
 use Rattle.dc_affine.proofs.FormLaws.{form_value, form_proper, and_both, formed-Sub}
 

@@ -7,7 +7,7 @@ use Rattle.dc_poly.specs.Terms.{Exponents, coef, degree_of, Polynomial}
 use Rattle.dc_poly.specs.Sums.{zeros, sum_of, composition_of}
 use Rattle.dc_poly.specs.Affine.{units}
 use Rattle.dc_affine.specs.declared.atom.Atom.{Atom}
-use Rattle.dc_affine.specs.Forms.{most, coefs_fit}
+use Rattle.dc_poly.specs.NormalForm.{most, coefs_fit}
 use Rattle.dc_system.specs.declared.edges.Edge.{Edge}
 use Rattle.dc_system.specs.Edges.{chosen}
 use Rattle.dc_system.specs.Paths.{Step}

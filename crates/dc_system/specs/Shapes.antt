@@ -3,7 +3,7 @@ use Rattle.std.specs.Prelude.{◌≡◌, ℕ, ◌+◌, ◌≤◌, ◌<◌, false
 use Rattle.std.specs.List.{AllByRecursion}
 use Rattle.dc_poly.specs.Terms.{TermList, Polynomial, IsPolynomial}
 use Rattle.dc_affine.specs.declared.atom.Atom.{Atom}
-use Rattle.dc_affine.specs.Forms.{IsNarrow}
+use Rattle.dc_poly.specs.NormalForm.{IsNormalForm}
 use Rattle.dc_affine.specs.Atoms.{IsAtom, AllAtoms}
 use Rattle.dc_system.specs.declared.edges.Edge.{Edge}
 use Rattle.dc_system.specs.declared.edges.System.{System}
@@ -12,7 +12,7 @@ use Rattle.dc_system.specs.declared.edges.System.{System}
 pub record IsForm (places : ℕ) (p : Polynomial) : Type 0 where
   pub has_places : p.places ≡ places
   pub kind : IsPolynomial p
-  pub narrow : IsNarrow p.terms
+  pub narrow : IsNormalForm p.terms
 
 -- ---- what mentions no variable at place n
 abbrev pub TermsSkip : ℕ → TermList → Type 0

@@ -7,7 +7,7 @@ use Rattle.std.specs.declared.vec.Vec.{Vec}
 use Rattle.std.specs.declared.alloc.Global.{Global}
 use Rattle.dc_affine.specs.declared.atom.Atom.{Atom}
 use Rattle.dc_poly.specs.Terms.{Exponents, coef, Polynomial}
-use Rattle.dc_affine.specs.Forms.{most}
+use Rattle.dc_poly.specs.NormalForm.{most}
 
 pub record IsSmall (p : Polynomial) : Type 0 where
   pub coefs : (u : Exponents) → unsigned_abs (coef p.terms u) ≤ most

@@ -2,7 +2,7 @@
 ghost use Rattle.std.specs.Prelude.{ℕ, ◌≡◌, ◌≤◌, ◌*◌, ◌++◌, ◌+ℤ◌, ◌*ℤ◌, unsigned_abs, length, MatchOption, IfOk, if◌then◌else◌, ltb, Some, None, true, false};
 ghost use Rattle.std.specs.List.{AllByRecursion};
 ghost use Rattle.dc_poly.specs.Terms.{coef as coef_of};
-ghost use Rattle.dc_affine.specs.Forms.{most};
+ghost use Rattle.dc_poly.specs.NormalForm.{most};
 ghost use Rattle.dc_affine.specs.Atoms.{AllAtoms, AllFit, IsAtom};
 ghost use Rattle.dc_system.specs.Composed.{atom_at, atom_fits, atoms_at, atoms_fit, coef_at};
 ghost use Rattle.dc_system.specs.Small.{IsGuard, IsSmall};

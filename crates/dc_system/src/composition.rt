@@ -4,7 +4,7 @@ ghost use Rattle.std.specs.List.{AllByRecursion};
 ghost use Rattle.dc_syntax.specs.Value.{State};
 ghost use Rattle.dc_syntax.specs.Table.{Then};
 ghost use Rattle.dc_poly.specs.Sums.{composition_of, sum_of};
-ghost use Rattle.dc_affine.specs.Forms.{coefs_fit};
+ghost use Rattle.dc_poly.specs.NormalForm.{coefs_fit};
 ghost use Rattle.dc_system.specs.Composed.{Crosses, compose_of, form_fits, forms_at, forms_fit};
 ghost use Rattle.dc_system.specs.Composed.{after as after_edge};
 ghost use Rattle.dc_system.specs.Composed.{all_flat as flat_forms};

@@ -2,7 +2,8 @@
 ghost use Rattle.std.specs.Prelude.{ℕ, ◌≡◌, ◌≤◌, ◌+◌, IfOk, None, true};
 ghost use Rattle.dc_poly.specs.Terms.{IsPolynomial};
 ghost use Rattle.dc_affine.specs.declared.form.FormFault.TheVariants.{NoMemory};
-ghost use Rattle.dc_affine.specs.Forms.{IsNarrow, affine_fault, fault_of, form_of, is_below};
+ghost use Rattle.dc_poly.specs.NormalForm.{IsNormalForm};
+ghost use Rattle.dc_affine.specs.Forms.{affine_fault, fault_of, form_of, is_below};
 ghost use Rattle.dc_affine.specs.Atoms.{cases_of, cond_is_below, conjunctions_of, dnf_fault};
 
 use dc_affine::{Atom, FormFault, affine, dnf, normal};
@@ -40,7 +41,7 @@ pub(crate) fn bound(alloc: Global, e: &Expr, vars: usize) -> Result<Poly, AllocE
     requires passes { affine_fault vars e.now ≡ None }
     ensures form { IfOk result (λ p. p ≡ form_of (vars + 1) e.now) }
     ensures kind { IfOk result (λ p. IsPolynomial p) }
-    ensures narrow { IfOk result (λ p. IsNarrow p.terms) }
+    ensures narrow { IfOk result (λ p. IsNormalForm p.terms) }
 {
     match affine(alloc, e, vars + 1) {
         Ok(form) => Ok(form),

@@ -2,5 +2,3 @@ pub mod Walks
 pub mod Stages
 pub mod Counts
 pub mod Listed
-pub mod Orders
-pub mod Weights

@@ -9,8 +9,9 @@ use Rattle.dc_poly.specs.Sums.{constant, product_of, values}
 use Rattle.dc_poly.specs.Conditions.{CanMul, HavePlaces}
 use Rattle.dc_poly.proofs.Sizes.{mul_both, power_more, weight-times, weight-constant}
 use Rattle.dc_poly.proofs.Degrees.{degree-times, degree-constant}
-use Rattle.dc_template.specs.Columns.{IsNormalForm, column_places, normal_weight}
-use Rattle.dc_template.proofs.Weights.{normal_light}
+use Rattle.dc_poly.specs.NormalForm.{IsNormalForm, normal_weight}
+use Rattle.dc_template.specs.Columns.{column_places}
+use Rattle.dc_poly.proofs.FewTerms.{normal_light}
 
 -- ---- after i factors u to the column c
 pub record Stage (c u : Polynomial) (i : ℕ) (p : Polynomial) : Type 0 where
@@ -35,19 +36,19 @@ one_more c i p u h k = rw (pow-succ' normal_weight i) (turn c (normal_weight ^ i
     turn : (c w n p u : ℕ) → p ≤ c * w → u ≤ n → p * u ≤ c * (n * w)
     turn c w n p u h k = let a = mul_both p (c * w) u n h k in omega arith
 
-pub stage_can : (c u : Polynomial) (e i : ℕ) (p : Polynomial) → IsPolynomial u → IsNormalForm u → u.places ≡ c.places → degree_of c.terms + 2 * e ≤ 12 → weight c.terms * normal_weight ^ e ≤ largest → i < e
+pub stage_can : (c u : Polynomial) (e i : ℕ) (p : Polynomial) → IsPolynomial u → IsNormalForm u.terms → u.places ≡ c.places → degree_of c.terms + 2 * e ≤ 12 → weight c.terms * normal_weight ^ e ≤ largest → i < e
     → Stage c u i p → CanMul p u
 stage_can c u e i p h k q low light l s = record {
   same_places = q ∙ sym s.places;
   low = (let a = degree-times p.terms u.terms in let b = k.low in let d = s.low in omega arith);
   light =
-      (let a = one_more (weight c.terms) i (weight p.terms) (weight u.terms) s.light (normal_light u h k) in
+      (let a = one_more (weight c.terms) i (weight p.terms) (weight u.terms) s.light (normal_light u.places u.terms h.few h.in_order h.padded k) in
       let b = power_more normal_weight (suc i) e (omega arith) (omega arith) in
       let d = mul_both (weight c.terms) (weight c.terms) (normal_weight ^ suc i) (normal_weight ^ e) (omega arith) b in
       omega arith);
 }
 
-pub stage_next : (c u : Polynomial) (i : ℕ) (p q : Polynomial) → IsPolynomial u → IsNormalForm u → q ≡ product_of p u → ((xs : List ℤ) → value q.terms xs ≡ value p.terms xs *ℤ value u.terms xs) → IsPolynomial q
+pub stage_next : (c u : Polynomial) (i : ℕ) (p q : Polynomial) → IsPolynomial u → IsNormalForm u.terms → q ≡ product_of p u → ((xs : List ℤ) → value q.terms xs ≡ value p.terms xs *ℤ value u.terms xs) → IsPolynomial q
     → Stage c u i p → Stage c u (i + 1) q
 stage_next c u i p q h k e v g s = record {
   places = ap (λ (r : Polynomial). r.places) e ∙ s.places;
@@ -55,7 +56,7 @@ stage_next c u i p q h k e v g s = record {
   low = (let a = degree-times p.terms u.terms in let b = k.low in let d = s.low in let f = ap (λ (r : Polynomial). degree_of r.terms) e in omega arith);
   light =
       subst (λ j. weight q.terms ≤ weight c.terms * normal_weight ^ j) (let j : suc i ≡ i + 1 = omega arith in j)
-      (let a = one_more (weight c.terms) i (weight p.terms) (weight u.terms) s.light (normal_light u h k) in
+      (let a = one_more (weight c.terms) i (weight p.terms) (weight u.terms) s.light (normal_light u.places u.terms h.few h.in_order h.padded k) in
       let b = weight-times p.terms u.terms in let f = ap (λ (r : Polynomial). weight r.terms) e in omega arith);
   exact = (λ xs. v xs ∙ turn (value p.terms xs) (value u.terms xs) (power (value u.terms xs) i) (value c.terms xs) (s.exact xs)
       ∙ ap (λ j. power (value u.terms xs) j *ℤ value c.terms xs) (let j : suc i ≡ i + 1 = omega arith in j));

@@ -8,8 +8,9 @@ use Rattle.dc_poly.specs.Terms.{Exponents, degree}
 use Rattle.dc_poly.specs.Sums.{times_mono, zeros, unit_at}
 use Rattle.dc_poly.proofs.Padded.{length-times, length-unit_at, length-zeros}
 use Rattle.dc_poly.proofs.Degrees.{degree-times_mono, degree-unit_at, degree-zeros}
-use Rattle.dc_template.specs.Monomials.{raised, of_degree, below, monomials_of, joined, continued}
-use Rattle.dc_template.proofs.Listed.{IsExact, exact}
+use Rattle.dc_poly.specs.Monomials.{raised, of_degree, below, monomials_of}
+use Rattle.dc_template.specs.Monomials.{joined, continued}
+use Rattle.dc_poly.proofs.Listed.{IsExact, exact}
 use Rattle.dc_template.proofs.Counts.{higher, no_degree, count_small}
 
 times-zeros : (m : Exponents) (n : ℕ) → n ≤ length m → times_mono m (zeros n) ≡ m

@@ -3,7 +3,8 @@ ghost use Rattle.std.specs.Prelude.{ℕ, ℤ, List, ◌≡◌, ◌≤◌, ◌+�
 ghost use Rattle.dc_poly.specs.Terms.{Polynomial, IsPolynomial, degree, degree_of, largest, mono_value, power, value, weight};
 ghost use Rattle.dc_poly.specs.Sums.{values};
 ghost use Rattle.dc_poly.specs.Conditions.{HavePlaces};
-ghost use Rattle.dc_template.specs.Columns.{IsNormalForm, column_places, normal_weight};
+ghost use Rattle.dc_poly.specs.NormalForm.{IsNormalForm, normal_weight};
+ghost use Rattle.dc_template.specs.Columns.{column_places};
 
 use dc_poly::{Mono, Poly};
 use std::alloc::{AllocError, Global};
@@ -16,7 +17,7 @@ use std::alloc::{AllocError, Global};
 pub fn template_column(alloc: Global, mono: &Mono, update: &[Poly]) -> Result<Poly, AllocError>
     requires low { degree mono.now ≤ 3 }
     requires one_each { length update.now ≡ length mono.now }
-    requires normal { All IsNormalForm update.now }
+    requires normal { All (λ u. IsNormalForm u.terms) update.now }
     requires same_places { HavePlaces (column_places update.now) update.now }
     ensures value { IfOk result
         (λ p. (xs : List ℤ) → value p.terms xs ≡ mono_value mono.now (values update.now xs)) }
@@ -46,7 +47,7 @@ fn places_of(update: &[Poly]) -> usize
 
 // A power of a normal form times a column.
 fn times_power(alloc: Global, column: Poly, update: &Poly, exponent: u8) -> Result<Poly, AllocError>
-    requires normal { IsNormalForm update.now }
+    requires normal { IsNormalForm update.now.terms }
     requires same_places { update.now.places ≡ column.places }
     requires low { degree_of column.terms + 2 * exponent ≤ 12 }
     requires light { weight column.terms * normal_weight ^ exponent ≤ largest }

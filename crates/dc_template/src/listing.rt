@@ -1,7 +1,8 @@
 //! The monomials of a template in graded order, and their number.
 ghost use Rattle.std.specs.Prelude.{ℕ, ◌≡◌, ◌≤◌, ◌+◌, ◌++◌, length, IfOk, OnOk};
 ghost use Rattle.dc_poly.specs.Terms.{degree};
-ghost use Rattle.dc_template.specs.Monomials.{AreMonomials, continued, monomials_of};
+ghost use Rattle.dc_template.specs.Monomials.{AreMonomials, continued};
+ghost use Rattle.dc_poly.specs.Monomials.{monomials_of};
 
 use dc_poly::Mono;
 use std::alloc::{AllocError, Global};

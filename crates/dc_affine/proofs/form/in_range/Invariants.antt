@@ -1,5 +1,5 @@
 use Rattle.std.proofs.Common.{◌≡◌, drop}
-use Rattle.dc_affine.specs.Forms.{coefs_fit}
+use Rattle.dc_poly.specs.NormalForm.{coefs_fit}
 use Rattle.dc_affine.proofs.form.in_range.Given as goal
 
 abbrev pub invariant-loop-term : goal.invariant-loop-term

@@ -2,7 +2,7 @@ use Rattle.std.proofs.Common.{SFits, ◌≤◌, ◌<◌, ◌∙◌, arith, ap, s
 use Rattle.std.specs.Prelude.{unsigned_abs}
 use Rattle.std.specs.Int.{w64, w128}
 use Rattle.std.proofs.lemmas.Int.{to_z-of_z}
-use Rattle.dc_affine.specs.Forms.{most}
+use Rattle.dc_poly.specs.NormalForm.{most}
 use Rattle.dc_affine.proofs.Fits.{small_64}
 use Rattle.dc_affine.proofs.Units.{units_push}
 use Rattle.dc_poly.specs.Affine.{units}

@@ -1,6 +1,6 @@
 use Rattle.std.proofs.Common.{◌≡◌, ◌≤◌, ◌*◌, drop, ◌+ℤ◌}
 use Rattle.std.specs.Prelude.{unsigned_abs}
-use Rattle.dc_affine.specs.Forms.{most}
+use Rattle.dc_poly.specs.NormalForm.{most}
 use Rattle.dc_system.specs.Composed.{coef_at}
 use Rattle.dc_system.proofs.atoms.combined.Given as goal
 

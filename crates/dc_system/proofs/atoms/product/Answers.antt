@@ -2,7 +2,7 @@ use Rattle.std.proofs.Common.{SFits, ◌≤◌, ◌*ℤ◌, arith, ap, sym, subs
 use Rattle.std.specs.Prelude.{unsigned_abs}
 use Rattle.std.specs.Int.{w64, w128}
 use Rattle.std.proofs.lemmas.Int.{to_z-of_z, fits_signed_from_abs}
-use Rattle.dc_affine.specs.Forms.{most}
+use Rattle.dc_poly.specs.NormalForm.{most}
 use Rattle.dc_affine.proofs.Fits.{small_64, small_128}
 use Rattle.dc_system.proofs.Sums.{product_small}
 use Rattle.dc_system.proofs.atoms.product.Goals as goal

@@ -1,5 +1,5 @@
 use Rattle.std.proofs.Common.{◌≡◌, ◌-◌, length}
-use Rattle.dc_template.specs.Monomials.{monomials_of}
+use Rattle.dc_poly.specs.Monomials.{monomials_of}
 use Rattle.dc_template.proofs.listing.unknowns.Given as goal
 
 abbrev pub invariant-loop-k : goal.invariant-loop-k
