@@ -6,6 +6,7 @@ use Rattle.dc_math.specs.Inverse.{◌/ℚ◌}
 use Rattle.dc_math.specs.Tests.{is_zero}
 use Rattle.dc_frac.specs.declared.Frac.{Frac}
 use Rattle.dc_frac.specs.Fits.{difference_fits, product_fits, quotient_fits}
+use Rattle.dc_start.specs.Changes.{step_fits}
 use Rattle.dc_lp.specs.Folds.{numbers}
 use Rattle.dc_lp.specs.Tables.{made}
 use Rattle.dc_lp.specs.Meanings.{all_below}
@@ -32,10 +33,6 @@ abbrev pub IsDivided : List Frac → List Frac → ℕ → ℕ → ℚ → Type 
 IsDivided old new from n by = (k : ℕ) → k < n → item new (from + k) ≡ item old (from + k) /ℚ by
 
 -- ---- another row
-
--- what must fit where factor times x is taken from y
-abbrev pub step_fits : ℚ → ℚ → ℚ → Bool
-step_fits factor x y = is_zero x || product_fits factor x && difference_fits y (factor *ℚ x)
 
 -- the numbers from `from` on, less factor times those from `pivot` on, but for column col
 unfoldable pub reductions_fit : List Frac → ℕ → ℕ → ℕ → ℚ → ℕ → Bool

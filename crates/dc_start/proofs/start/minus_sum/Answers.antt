@@ -3,10 +3,10 @@ use Rattle.std.specs.Prelude.{◌-ℤ◌}
 use Rattle.std.proofs.lemmas.Int.{to_z-of_z, fits_signed_from_abs}
 use mir.Syntax.{w128}
 use Rattle.dc_frac.specs.Fits.{IsSmall}
-use Rattle.dc_dense.specs.Starts.{lowered}
-use Rattle.dc_dense.proofs.Tallies.{lowered-small}
-use Rattle.dc_dense.proofs.Loads.{lowered-start, lowered-more}
-use Rattle.dc_dense.proofs.start.minus_sum.Goals as goal
+use Rattle.dc_start.specs.Starts.{lowered}
+use Rattle.dc_start.proofs.Tallies.{lowered-small}
+use Rattle.dc_start.proofs.Loads.{lowered-start, lowered-more}
+use Rattle.dc_start.proofs.start.minus_sum.Goals as goal
 
 pub loop-row-init : goal.loop-row-init
 loop-row-init c = lowered-start c.args.p.now c.args.col

@@ -1,12 +1,10 @@
--- The starting table in whole numbers, and in one list.
-use Rattle.std.specs.Prelude.{◌≡◌, ℕ, zero, suc, ◌+◌, ◌*◌, ◌<◌, ◌==◌, nat_lt, ℤ, pos, neg_ℤ, ◌-ℤ◌, int_lt, cond, if◌then◌else◌, List, length}
+-- The starting table in whole numbers.
+use Rattle.std.specs.Prelude.{ℕ, zero, suc, ◌+◌, ◌==◌, nat_lt, ℤ, pos, neg_ℤ, ◌-ℤ◌, int_lt, cond, if◌then◌else◌, length}
 use Rattle.dc_math.specs.RationalField.{rationals}
 use Rattle.dc_math.specs.Rational.{ℚ}
-use Rattle.dc_frac.specs.declared.Frac.{Frac}
 use Rattle.dc_lp.specs.declared.Problem.{Problem}
 use Rattle.dc_lp.specs.Problems.{coefficient, whole_at, linear_of}
 use Rattle.dc_lp.specs.Tables as tables
-use Rattle.dc_dense.specs.Flat.{item}
 
 abbrev pub columns : Problem → ℕ
 columns p = length p.columns.items
@@ -32,9 +30,3 @@ lowered p k (suc n) = lowered p k n -ℤ whole_entry p n k
 
 abbrev pub start_value : Problem → ℕ → ℕ → ℚ
 start_value p i k = tables.start_value ℚ rationals (linear_of p) i k
-
--- the list has the first n rows of the starting table, and of the next one the first j numbers
-pub record HasRows (p : Problem) (n j : ℕ) (xs : List Frac) : Type 0 where
-  pub long : length xs ≡ n * width p + j
-  pub rows : (i : ℕ) → i < n → (k : ℕ) → k < width p → item xs (i * width p + k) ≡ start_value p i k
-  pub part : (k : ℕ) → k < j → item xs (n * width p + k) ≡ start_value p n k

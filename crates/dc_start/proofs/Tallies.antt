@@ -7,7 +7,7 @@ use Rattle.std.proofs.lemmas.List.Sums.{sum_by-cons}
 use Rattle.dc_lp.specs.declared.Entry.{Entry}
 use Rattle.dc_lp.specs.declared.Problem.{Problem}
 use Rattle.dc_lp.specs.Problems.{IsWellFormed, coefficient_in, coefficient, entries, weight, whole_at}
-use Rattle.dc_dense.specs.Starts.{columns, signed, whole_entry, lowered}
+use Rattle.dc_start.specs.Starts.{columns, signed, whole_entry, lowered}
 
 -- f 0 + .. + f (n - 1)
 abbrev tally : (ℕ → ℕ) → ℕ → ℕ

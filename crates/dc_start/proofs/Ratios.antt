@@ -1,8 +1,9 @@
 -- The row that leaves.
-use Rattle.std.proofs.Common.{◌≡◌, ℕ, zero, suc, ◌+◌, ◌<◌, Bool, true, false, cond, not, ◌&&◌, ◌||◌, length, slice_index, slice_index_or, List, [], ◌∷◌, nat_lt, Option, Some, None, Ok, Err, refl, sym, ◌∙◌, ap, arith, add-one}
+use Rattle.std.proofs.Common.{◌≡◌, ℕ, zero, suc, ◌+◌, ◌<◌, Bool, true, false, cond, not, ◌&&◌, ◌||◌, length, slice_index, slice_index_or, List, [], ◌∷◌, nat_lt, Option, Some, None, Ok, Err, refl, sym, ◌∙◌, ap, ap₂, arith, add-one}
 use Rattle.dc_math.specs.Rational.{ℚ, ◌<ℚ◌, <ℚ-≤ℚ, ≤ℚ_refl, le_ℚ, of_ℤ}
 use Rattle.std.specs.Prelude.{pos}
 use Rattle.dc_math.specs.RationalField.{rationals}
+use Rattle.dc_math.specs.Inverse.{◌/ℚ◌}
 use Rattle.dc_math.specs.Tests as tests
 use Rattle.dc_math.specs.Tests.{lt_ℚ, lt_ℚ-true, lt_ℚ-false}
 use Rattle.dc_frac.specs.Fits.{quotient_fits}
@@ -11,8 +12,8 @@ use Rattle.dc_lp.proofs.FieldTests.{below_test, positive_test}
 use Rattle.dc_lp.specs.Tables as tables
 use Rattle.dc_lp.specs.Tables.{Table}
 use Rattle.dc_lp.specs.Meanings.{at, right, is_positive, ratio_answer, ratio_row, ratios_fit}
-use Rattle.dc_dense.specs.declared.dense.Candidate.{Candidate}
-use Rattle.dc_dense.specs.Ratios.{IsCandidate, row_of, goes_before, better, tested_fit, IsBestOf}
+use Rattle.dc_start.specs.declared.ratio.Candidate.{Candidate}
+use Rattle.dc_start.specs.Ratios.{IsCandidate, AreCandidates, AreWithin, IsBetter, row_of, goes_before, better, tested_fit, IsBestOf}
 use Rattle.dc_lp.proofs.Belows.{all_below-fails}
 
 -- a positive number isn't 0
@@ -98,7 +99,11 @@ module _ (t : Table ℚ) (j n : ℕ) (best : Option Candidate) (h : IsBestOf t j
       let row : row_of best ≡ ratio_row t j = h.row ∙ ap (tables.best_below ℚ rationals t j) same in
       ap (λ o. Ok o) row ∙ sym (ap (λ b. cond b (Ok (ratio_row t j)) (Err (record {}))) yes)
 
-pub basic-read : (xs : List ℕ) (i x : ℕ) → i < length xs → x ≡ slice_index_or xs i x → x ≡ slice_index xs i
-basic-read [] i x l e = absurd (omega arith)
-basic-read (y ∷ xs) zero x l e = e
-basic-read (y ∷ xs) (suc i) x l e = basic-read xs i x (omega arith) e
+pub candidates-within : (t : Table ℚ) (j : ℕ) (best : Option Candidate) → AreCandidates t j best → AreWithin (length t.basis) best
+candidates-within t j None h = tt
+candidates-within t j (Some c) h = h.row
+
+-- a row with its quotient
+pub candidate-is : (t : Table ℚ) (j : ℕ) (c : Candidate) (x y : ℚ) → c.row < length t.basis → value c.ratio ≡ x /ℚ y → x ≡ at t c.row (right t) → y ≡ at t c.row j
+    → IsCandidate t j c
+candidate-is t j c x y l e f g = record { row = l; ratio = e ∙ ap₂ ◌/ℚ◌ f g }

@@ -4,9 +4,9 @@ use mir.Syntax.{w128}
 use Rattle.dc_frac.specs.Fits.{IsSmall}
 use Rattle.dc_lp.specs.Problems.{coefficient, whole_at}
 use Rattle.dc_lp.proofs.Folding.{coefficient_read, coefficient_small}
-use Rattle.dc_dense.specs.Starts.{columns, signed}
-use Rattle.dc_dense.proofs.Loads.{entry-real, entry-right, whole-read}
-use Rattle.dc_dense.proofs.start.first_entry.Goals as goal
+use Rattle.dc_start.specs.Starts.{columns, signed}
+use Rattle.dc_start.proofs.Loads.{entry-real, entry-right, whole-read}
+use Rattle.dc_start.proofs.start.first_entry.Goals as goal
 
 pub signed-requires : goal.signed-requires
 signed-requires c =
