@@ -1,7 +1,8 @@
 -- The laws of linear problems, over the rational numbers.
-use Rattle.std.specs.Prelude.{◌≡◌, ◌↔◌, ℕ, Some, None}
-use Rattle.dc_math.specs.Rational.{ℚ}
+use Rattle.std.specs.Prelude.{◌≡◌, ◌↔◌, ◌⊎◌, ℕ, ◌<◌, ℤ, pos, Bool, false, Some, None}
+use Rattle.dc_math.specs.Rational.{ℚ, of_ℤ}
 use Rattle.dc_lp.specs.Linear.{Linear, combined_right, cost_of, IsDual, IsRefutation, IsRay, CostAtLeast, HasNoSolution, HasNoBound}
+use Rattle.dc_lp.specs.Folds.{folded, folded_over, IsFitSum}
 use Rattle.dc_lp.specs.Tables.{Table}
 use Rattle.dc_lp.specs.Meanings.{IsPivotPlace, entering, ratio_row}
 use Rattle.dc_lp.specs.Choices.{Enters, NoneEnters, Leaves, NoneLeaves, HasApartBasis}
@@ -39,3 +40,12 @@ OneRowLeaves = (t : Table ℚ) (j r : ℕ) → HasApartBasis t → Leaves t j r 
 
 abbrev pub NoRowLeaves : Type 0
 NoRowLeaves = (t : Table ℚ) (j : ℕ) → (ratio_row t j ≡ None) ↔ NoneLeaves t j
+
+-- a fold that exists is the sum of its products, and fits
+abbrev pub SumsFit : Type 0
+SumsFit = (n : ℕ) (a : ℕ → ℤ) (x : ℕ → ℚ) (s : ℚ) → folded n a x ≡ Some s → IsFitSum n a x s
+
+-- where every index that doesn't pass has a coefficient or a number that is 0, the fold over the others is the whole fold, or neither fits
+abbrev pub LeavesOut : Type 0
+LeavesOut = (test : ℕ → Bool) (n : ℕ) (a : ℕ → ℤ) (x : ℕ → ℚ)
+    → ((k : ℕ) → k < n → test k ≡ false → (a k ≡ pos 0) ⊎ (x k ≡ of_ℤ (pos 0))) → folded_over test n a x ≡ folded n a x

@@ -1,6 +1,6 @@
 //! Laws of linear problems over the rational numbers, for vectors of any numbers.
 
-ghost use Rattle.dc_lp.specs.Laws.{WeakDuality, BestByDual, RefutationExcludes, RayGoesOn, Fills, ColumnEnters, NoColumnEnters, RowLeaves, OneRowLeaves, NoRowLeaves};
+ghost use Rattle.dc_lp.specs.Laws.{WeakDuality, BestByDual, RefutationExcludes, RayGoesOn, Fills, ColumnEnters, NoColumnEnters, RowLeaves, OneRowLeaves, NoRowLeaves, SumsFit, LeavesOut};
 
 /// Weak duality: a solution costs at least the right side of each dual. So a solution whose cost is the right side of a dual is
 /// a best one.
@@ -39,4 +39,11 @@ pub fn leaving()
     ensures row { RowLeaves }
     ensures one { OneRowLeaves }
     ensures none { NoRowLeaves }
+{}
+
+/// A fold that exists is the sum of its products, and it fits. Terms with a coefficient or a number that is 0 can be left out: they change
+/// neither the sum nor whether there is one.
+pub fn folds()
+    ensures sum { SumsFit }
+    ensures left_out { LeavesOut }
 {}

@@ -22,12 +22,16 @@ pub fn quotient(x: Frac, by: Frac) -> Option<Frac>
     x.div(by)
 }
 
-/// `y` less `factor * x`, at once where `x` is 0.
+/// `y` less `factor * x`, at once where `x` is 0. Where `y` is 0 the product needs no sum.
 pub fn step(y: Frac, factor: Frac, x: Frac) -> Option<Frac>
     ensures { IsChecked result (step_fits (value factor) (value x) (value y)) (value y -ℚ value factor *ℚ value x) }
 {
     if x.is_zero() {
         return Some(y);
     }
-    y.sub(factor.mul(x)?)
+    let product = factor.mul(x)?;
+    if y.is_zero() {
+        return Some(product.neg());
+    }
+    y.sub(product)
 }
