@@ -72,7 +72,8 @@ fn reduce_row(
     requires other { i ≢ row }
     requires here { i < height }
     ensures fits { result ≡ row_fits items.old width row col i }
-    ensures reduced { IsTrue result → (k : ℕ) → k < width → item items.new (i * width + k) ≡ reduced_item items.old width row col i k }
+    ensures reduced { IsTrue result → (k : ℕ) → k < width
+        → item items.new (i * width + k) ≡ reduced_item items.old width row col i k }
     ensures others { ChangesWithin items.old items.new (i * width) width }
 {
     let from = i * width;

@@ -39,7 +39,8 @@ pub record IsBetter (t : Table ℚ) (j : ℕ) (next : Candidate) (best : Option 
 
 -- the quotients of the first n rows fit, where the entry is positive
 unfoldable pub tested_fit : Table ℚ → ℕ → ℕ → Bool
-tested_fit t j n = all_below n (λ i. not (is_positive (at t i j)) || quotient_fits (at t i (right t)) (at t i j))
+tested_fit t j n = all_below n (λ i. not (is_positive (at t i j))
+    || quotient_fits (at t i (right t)) (at t i j))
 
 -- the best of the first n rows
 pub record IsBestOf (t : Table ℚ) (j n : ℕ) (best : Option Candidate) : Type 0 where

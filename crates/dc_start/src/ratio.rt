@@ -20,7 +20,8 @@ pub struct Candidate {
 pub fn better(basis: &[usize], next: Candidate, best: Option<Candidate>) -> Candidate
     requires next { next.row < length basis.now }
     requires best { AreWithin (length basis.now) best }
-    ensures { (t : Table ℚ) (j : ℕ) → basis.now ≡ t.basis → IsCandidate t j next → AreCandidates t j best → IsBetter t j next best result }
+    ensures { (t : Table ℚ) (j : ℕ) → basis.now ≡ t.basis → IsCandidate t j next
+        → AreCandidates t j best → IsBetter t j next best result }
 {
     match best {
         None => next,
@@ -38,7 +39,8 @@ pub fn better(basis: &[usize], next: Candidate, best: Option<Candidate>) -> Cand
 fn goes_before(basis: &[usize], next: Candidate, best: Candidate) -> bool
     requires next { next.row < length basis.now }
     requires best { best.row < length basis.now }
-    ensures { (t : Table ℚ) (j : ℕ) → basis.now ≡ t.basis → IsCandidate t j next → IsCandidate t j best → result ≡ goes_before t j next.row best.row }
+    ensures { (t : Table ℚ) (j : ℕ) → basis.now ≡ t.basis → IsCandidate t j next
+        → IsCandidate t j best → result ≡ goes_before t j next.row best.row }
 {
     match next.ratio.cmp(&best.ratio) {
         Ordering::Less => true,
