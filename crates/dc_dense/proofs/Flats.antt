@@ -13,7 +13,9 @@ use Rattle.dc_math.specs.Gcd.{Coprime-gcd}
 use Rattle.dc_math.specs.Lowest.{lowest, lowest-of_reduced}
 use Rattle.dc_lp.specs.Meanings.{all_below}
 use Rattle.dc_lp.specs.Tables.{made}
-use Rattle.dc_dense.specs.Flat.{item, flat, divisions_fit, ChangesWithin, IsDivided, reductions_fit, step_fits, IsReduced, row_fits, rows_fit, reduced_item, AreReduced, items_fit, pivoted_item}
+use Rattle.dc_dense.specs.Flat.{item, flat, divisions_fit, ChangesWithin, IsDivided, reductions_fit, IsReduced, row_fits, rows_fit, reduced_item, AreReduced, items_fit, pivoted_item}
+use Rattle.dc_start.specs.Changes.{step_fits}
+use Rattle.dc_start.proofs.Changes.{quotient-zero, step-zero}
 use Rattle.dc_dense.proofs.Places.{rows_apart}
 use Rattle.dc_lp.proofs.Belows.{or_true, or_true_or, all_below-fails, all_below-same}
 
@@ -41,26 +43,6 @@ unfolding item
 item-set_same [] k v lt = absurd (omega arith)
 item-set_same (x ∷ xs) zero v lt = refl
 item-set_same (x ∷ xs) (suc k) v lt = item-set_same xs k v (omega arith)
-
--- ---- where a number is 0
-
-fits-zero : fits (of_ℤ (pos 0)) ≡ true
-unfolding fits
-fits-zero =
-    let e : lowest (of_ℤ (pos 0)) ≡ fraction_of (pos 0) = ap lowest (of_ℤ_is (pos 0)) ∙ lowest-of_reduced (fraction_of (pos 0)) (Coprime-gcd 0 1 (λ d p q. q)) in
-    rw e refl
-
-pub quotient-zero : (x by : ℚ) → is_zero x ≡ true → IsTrue (quotient_fits x by) × (x ≡ x /ℚ by)
-quotient-zero x by h =
-    let e : x ≡ of_ℤ (pos 0) = eq_ℚ_true x (of_ℤ (pos 0)) h in
-    let z : x *ℚ inverse by ≡ of_ℤ (pos 0) = ap (λ y. y *ℚ inverse by) e ∙ zero-*ℚ (inverse by) in
-    (ap fits z ∙ fits-zero, e ∙ sym z)
-
-nothing_taken : (factor x y : ℚ) → x ≡ of_ℤ (pos 0) → y ≡ y +ℚ neg_ℚ (factor *ℚ x)
-nothing_taken factor x y e = linear₁ factor _ _ _ _ e (ring (factor ∷ x ∷ y ∷ []) (λ ρ p₁ p₂ p₃. simp (p₁, p₂, p₃, read_nat ρ, reads) (same_form _ _ _ refl)))
-
-pub step-zero : (factor x y : ℚ) → is_zero x ≡ true → IsTrue (step_fits factor x y) × (y ≡ y -ℚ factor *ℚ x)
-step-zero factor x y h = (rw h refl, nothing_taken factor x y (eq_ℚ_true x (of_ℤ (pos 0)) h))
 
 -- ---- the pivot's row
 
@@ -350,4 +332,4 @@ flat-at h w xs i k hi hk =
     ap (λ r. slice_index_or r k (of_ℤ (pos 0))) (get_or-map-range_with_len (λ i. made w (λ k. item xs (i * w + k))) 0 h i i [] hi (omega arith))
     ∙ get_or-map-range_with_len (λ k. item xs (i * w + k)) 0 w k k (of_ℤ (pos 0)) hk (omega arith)
 
-pub ruleset flats = (item-is, quotient-zero, step-zero, divisions_fit-start, IsDividing-start, IsReducing-start, AreReducing-start, row_fits-zero, row_fits-else, reduced_item-zero, reduced_item-else, rows_fit-start, items_fit-undivided)
+pub ruleset flats = (item-is, divisions_fit-start, IsDividing-start, IsReducing-start, AreReducing-start, row_fits-zero, row_fits-else, reduced_item-zero, reduced_item-else, rows_fit-start, items_fit-undivided)

@@ -13,7 +13,8 @@ use Rattle.dc_lp.specs.Tables.{Table, made, first_index}
 use Rattle.dc_lp.specs.Folds.{checked}
 use Rattle.dc_lp.proofs.FieldTests.{zero_test, negative_test}
 use Rattle.dc_lp.specs.Meanings.{Meaning, resting, at, is_zero, entering, all_below, pivoted, pivot_fits, division_fits, reduction_fits, divided}
-use Rattle.dc_dense.specs.Flat.{item, flat, step_fits, items_fit, pivoted_item, ArePivoted}
+use Rattle.dc_start.specs.Changes.{step_fits}
+use Rattle.dc_dense.specs.Flat.{item, flat, items_fit, pivoted_item, ArePivoted}
 use Rattle.dc_lp.proofs.Belows.{all_below-same}
 use Rattle.dc_lp.proofs.Firsts.{first_some-none, first_some-found}
 use Rattle.dc_dense.proofs.Flats.{flat-at}

@@ -1,5 +1,4 @@
 pub mod Flat
 pub mod Shape
-pub mod Starts
+pub mod Rows
 pub mod Meanings
-pub mod Ratios

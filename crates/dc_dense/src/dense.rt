@@ -5,11 +5,11 @@ ghost use Rattle.std.specs.Prelude.{◌≡◌, ◌+◌, ◌<◌, ◌≤◌, vec_
 ghost use Rattle.dc_dense.specs.Shape.{IsShaped};
 
 use crate::pivot::pivot_items;
-use crate::start::{start_basis, start_items};
+use crate::start::start_items;
 use dc_frac::Frac;
 use dc_lp::{PastPivot, PastQuotient, Problem, Tableau};
+use dc_start::{Candidate, better, start_basis};
 use std::alloc::{AllocError, Global};
-use std::cmp::Ordering;
 
 /// A tableau in one vector of fractions, row after row. A pivot passes over the zeros of its row, and over the rows with a zero in its
 /// column; it takes no memory.
@@ -27,17 +27,8 @@ pub struct Dense {
     ghost shape: { loaded ≡ true → IsShaped rows columns width (vec_len basis) (vec_len items) },
 }
 
-// a row that may leave, with its quotient
-#[derive(Clone, Copy)]
-struct Candidate {
-    row: usize,
-    ratio: Frac,
-}
-
 impl Dense {
     ghost use Rattle.dc_dense.specs.Meanings.{dense_meaning};
-    ghost use Rattle.dc_dense.specs.Ratios.{IsCandidate, AreCandidates, row_of, goes_before, better};
-    ghost use Rattle.dc_lp.specs.Meanings.{IsUsable};
 
     /// A tableau that isn't loaded. It takes no memory.
     pub fn new(alloc: Global) -> Dense
@@ -53,40 +44,6 @@ impl Dense {
             width: 0,
             basis: Vec::new(alloc),
             items: Vec::new(alloc),
-        }
-    }
-
-    /// The better of the next row and the best before it.
-    fn better(&self, next: Candidate, best: Option<Candidate>, col: usize) -> Candidate
-        requires usable { IsUsable (dense_meaning self.now) }
-        requires next { IsCandidate (dense_meaning self.now).table col next }
-        requires best { AreCandidates (dense_meaning self.now).table col best }
-        ensures candidate { IsCandidate (dense_meaning self.now).table col result }
-        ensures row { Some result.row ≡ better (dense_meaning self.now).table col next.row (row_of best) }
-    {
-        match best {
-            None => next,
-            Some(best) => {
-                if self.goes_before(next, best, col) {
-                    next
-                } else {
-                    best
-                }
-            }
-        }
-    }
-
-    /// Whether a row goes before another: its quotient is less, or they tie and its basic column is less.
-    fn goes_before(&self, next: Candidate, best: Candidate, col: usize) -> bool
-        requires usable { IsUsable (dense_meaning self.now) }
-        requires next { IsCandidate (dense_meaning self.now).table col next }
-        requires best { IsCandidate (dense_meaning self.now).table col best }
-        ensures { result ≡ goes_before (dense_meaning self.now).table col next.row best.row }
-    {
-        match next.ratio.cmp(&best.ratio) {
-            Ordering::Less => true,
-            Ordering::Equal => self.basis[next.row] < self.basis[best.row],
-            Ordering::Greater => false,
         }
     }
 }
@@ -142,7 +99,7 @@ impl Tableau for Dense {
                 let Some(ratio) = self.entry(row, right).div(entry) else {
                     return Err(PastQuotient);
                 };
-                best = Some(self.better(Candidate { row, ratio }, best, col));
+                best = Some(better(&self.basis, Candidate { row, ratio }, best));
             }
         }
         Ok(best.map(|candidate| candidate.row))

@@ -2,14 +2,12 @@
 #![tactic(auto, using(crate::proofs::Flats::flats, crate::proofs::Places::places))]
 
 ghost use Rattle.std.specs.Prelude.{◌≡◌, ◌≢◌, ℕ, ◌+◌, ◌*◌, ◌<◌, ◌≤◌, ◌⊎◌, length, IsTrue, false};
-ghost use Rattle.dc_math.specs.Rational.{◌-ℚ◌, ◌*ℚ◌};
-ghost use Rattle.dc_math.specs.Inverse.{◌/ℚ◌};
 ghost use Rattle.dc_math.specs.Tests.{is_zero};
-ghost use Rattle.dc_frac.specs.Fits.{quotient_fits};
-ghost use Rattle.dc_frac.specs.Value.{value, IsChecked};
-ghost use Rattle.dc_dense.specs.Flat.{item, ChangesWithin, IsDivided, divisions_fit, IsReduced, reductions_fit, step_fits, row_fits, rows_fit, reduced_item, AreReduced, items_fit, ArePivoted};
+ghost use Rattle.dc_frac.specs.Value.{value};
+ghost use Rattle.dc_dense.specs.Flat.{item, ChangesWithin, IsDivided, divisions_fit, IsReduced, reductions_fit, row_fits, rows_fit, reduced_item, AreReduced, items_fit, ArePivoted};
 
 use dc_frac::Frac;
+use dc_start::{quotient, step};
 
 /// Makes the pivot at a place with an entry. Whether it fits; where it doesn't, the items are left half done.
 pub fn pivot_items(items: &mut [Frac], height: usize, width: usize, row: usize, col: usize) -> bool
@@ -39,17 +37,6 @@ fn divide(items: &mut [Frac], from: usize, width: usize, by: Frac) -> bool
         }
     }
     true
-}
-
-/// `x` by `by`, at once where `x` is 0.
-fn quotient(x: Frac, by: Frac) -> Option<Frac>
-    requires nonzero { is_zero (value by) ≡ false }
-    ensures { IsChecked result (quotient_fits (value x) (value by)) (value x /ℚ value by) }
-{
-    if x.is_zero() {
-        return Some(x);
-    }
-    x.div(by)
 }
 
 /// Reduces every row but `row`.
@@ -85,7 +72,8 @@ fn reduce_row(
     requires other { i ≢ row }
     requires here { i < height }
     ensures fits { result ≡ row_fits items.old width row col i }
-    ensures reduced { IsTrue result → (k : ℕ) → k < width → item items.new (i * width + k) ≡ reduced_item items.old width row col i k }
+    ensures reduced { IsTrue result → (k : ℕ) → k < width
+        → item items.new (i * width + k) ≡ reduced_item items.old width row col i k }
     ensures others { ChangesWithin items.old items.new (i * width) width }
 {
     let from = i * width;
@@ -121,14 +109,4 @@ fn reduce(
         }
     }
     true
-}
-
-/// `y` less `factor * x`, at once where `x` is 0.
-fn step(y: Frac, factor: Frac, x: Frac) -> Option<Frac>
-    ensures { IsChecked result (step_fits (value factor) (value x) (value y)) (value y -ℚ value factor *ℚ value x) }
-{
-    if x.is_zero() {
-        return Some(y);
-    }
-    y.sub(factor.mul(x)?)
 }

@@ -1,28 +1,26 @@
--- A fold that fits is the sum.
-use Rattle.std.specs.Prelude.{◌≡◌, ℕ, zero, suc, ℤ, pos, Bool, true, false, cond, Option, Some, None, [], ◌∷◌}
+-- A fold that fits is the sum, which fits, and terms that are 0 can be left out.
+use Rattle.std.specs.Prelude.{◌≡◌, ◌⊎◌, ℕ, zero, suc, ℤ, pos, Bool, true, false, ◌&&◌, cond, Option, Some, None}
 use Rattle.std.specs.Option.{option_and_then}
-use Rattle.std.specs.Ordering.{int_eq}
-use Rattle.std.proofs.Common.{refl, sym, ◌∙◌, ap}
-use Rattle.std.proofs.lemmas.Bool.Decides.{Decides-int_eq}
-use Rattle.dc_math.specs.Rational.{ℚ, ◌+ℚ◌, ◌*ℚ◌, of_ℤ}
-use Rattle.dc_math.specs.RationalRing.{ring, reads, read_nat, same_form}
+use Rattle.std.proofs.Common.{refl, sym, ◌∙◌, ap, inl, inr, arith}
+use Rattle.std.proofs.lemmas.Bool.{and_from}
+use Rattle.dc_math.specs.Rational.{ℚ, ◌+ℚ◌, ◌*ℚ◌, of_ℤ, zero-*ℚ, *ℚ_comm}
+use Rattle.dc_math.specs.RationalField.{+ℚ-zero}
 use Rattle.dc_math.specs.Sums.{sum_ℚ, sum_ℚ_none, sum_ℚ_last}
-use Rattle.dc_lp.specs.Folds.{added, folded, checked}
+use Rattle.dc_frac.specs.Fits.{fits, product_fits, sum_fits}
+use Rattle.dc_lp.specs.Folds.{added, folded, folded_over, checked}
+use Rattle.dc_lp.specs.Laws.{LeavesOut, SumsFit}
+use Rattle.dc_lp.proofs.Zeros.{fits-zero, product_fits-zero, sum_fits-zero, sum-fits}
 
 injective : (s t : ℚ) → Some s ≡ Some t → s ≡ t
 injective s t e = cc
 
-adds_nothing : (s x : ℚ) → s ≡ s +ℚ of_ℤ (pos 0) *ℚ x
-adds_nothing s x = ring (s ∷ x ∷ []) (λ ρ p q. simp (p, q, read_nat ρ, reads) (same_form _ _ _ refl))
-
 pub added-sum : (s : ℚ) (a : ℤ) (x t : ℚ) → added s a x ≡ Some t → t ≡ s +ℚ of_ℤ a *ℚ x
 unfolding added
-added-sum s a x t e = by (int_eq a (pos 0)) (Decides-int_eq a (pos 0)).0 _ e
+added-sum s a x t e = by (product_fits (of_ℤ a) x && sum_fits s (of_ℤ a *ℚ x)) e
   where
-    by : (b : Bool) → (b ≡ true → a ≡ pos 0) → (fits : Bool) → cond b (Some s) (checked fits (s +ℚ of_ℤ a *ℚ x)) ≡ Some t → t ≡ s +ℚ of_ℤ a *ℚ x
-    by true z fits e = rw (z refl) (sym (injective s t e) ∙ adds_nothing s x)
-    by false z true e = sym (injective (s +ℚ of_ℤ a *ℚ x) t e)
-    by false z false e = absurd (cc)
+    by : (fits : Bool) → checked fits (s +ℚ of_ℤ a *ℚ x) ≡ Some t → t ≡ s +ℚ of_ℤ a *ℚ x
+    by true e = sym (injective (s +ℚ of_ℤ a *ℚ x) t e)
+    by false e = absurd (cc)
 
 pub folded-sum : (n : ℕ) (a : ℕ → ℤ) (x : ℕ → ℚ) (s : ℚ) → folded n a x ≡ Some s → s ≡ sum_ℚ n (λ k. of_ℤ (a k) *ℚ x k)
 unfolding folded
@@ -32,3 +30,50 @@ folded-sum (suc n) a x s e = by (folded n a x) (folded-sum n a x) e
     by : (o : Option ℚ) → ((r : ℚ) → o ≡ Some r → r ≡ sum_ℚ n (λ k. of_ℤ (a k) *ℚ x k)) → option_and_then (λ r. added r (a n) (x n)) o ≡ Some s → s ≡ sum_ℚ (suc n) (λ k. of_ℤ (a k) *ℚ x k)
     by None f g = absurd (cc)
     by (Some r) f g = added-sum r (a n) (x n) s g ∙ ap (λ z. z +ℚ of_ℤ (a n) *ℚ x n) (f r refl) ∙ sym (sum_ℚ_last n (λ k. of_ℤ (a k) *ℚ x k))
+
+-- ---- a sum that exists fits
+added-fits : (s : ℚ) (a : ℤ) (x t : ℚ) → added s a x ≡ Some t → fits t ≡ true
+unfolding added
+added-fits s a x t e = by (product_fits (of_ℤ a) x) (sum_fits s (of_ℤ a *ℚ x)) (sum-fits s (of_ℤ a *ℚ x)) e
+  where
+    by : (b c : Bool) → (c ≡ true → fits (s +ℚ of_ℤ a *ℚ x) ≡ true) → checked (b && c) (s +ℚ of_ℤ a *ℚ x) ≡ Some t → fits t ≡ true
+    by true true f e = ap fits (sym (injective (s +ℚ of_ℤ a *ℚ x) t e)) ∙ f refl
+    by true false f e = absurd (cc)
+    by false c f e = absurd (cc)
+
+pub folded-fits : (n : ℕ) (a : ℕ → ℤ) (x : ℕ → ℚ) (s : ℚ) → folded n a x ≡ Some s → fits s ≡ true
+unfolding folded
+folded-fits zero a x s e = ap fits (sym (injective (of_ℤ (pos 0)) s e)) ∙ fits-zero
+folded-fits (suc n) a x s e = by (folded n a x) e
+  where
+    by : (o : Option ℚ) → option_and_then (λ r. added r (a n) (x n)) o ≡ Some s → fits s ≡ true
+    by None g = absurd (cc)
+    by (Some r) g = added-fits r (a n) (x n) s g
+
+-- ---- a term that is 0 can be left out
+pub added-none : (s : ℚ) (a : ℤ) (x : ℚ) → of_ℤ a *ℚ x ≡ of_ℤ (pos 0) → fits s ≡ true → added s a x ≡ Some s
+unfolding added
+added-none s a x z h =
+    ap (λ b. checked b (s +ℚ of_ℤ a *ℚ x)) (and_from _ _ (product_fits-zero (of_ℤ a) x z) (ap (sum_fits s) z ∙ sum_fits-zero s h))
+    ∙ ap Some (ap (λ y. s +ℚ y) z ∙ +ℚ-zero s)
+
+pub zero-term : (a : ℤ) (x : ℚ) → (a ≡ pos 0) ⊎ (x ≡ of_ℤ (pos 0)) → of_ℤ a *ℚ x ≡ of_ℤ (pos 0)
+zero-term a x (inl e) = ap (λ b. of_ℤ b *ℚ x) e ∙ zero-*ℚ x
+zero-term a x (inr e) = ap (λ y. of_ℤ a *ℚ y) e ∙ *ℚ_comm (of_ℤ a) (of_ℤ (pos 0)) ∙ zero-*ℚ (of_ℤ a)
+
+pub leaves_out : LeavesOut
+unfolding folded folded_over
+leaves_out test zero a x h = refl
+leaves_out test (suc n) a x h = by (leaves_out test n a x (λ k l e. h k (omega arith) e)) (test n) refl
+  where
+    skips : (o : Option ℚ) → folded n a x ≡ o → of_ℤ (a n) *ℚ x n ≡ of_ℤ (pos 0) → o ≡ option_and_then (λ s. added s (a n) (x n)) o
+    skips None e z = refl
+    skips (Some s) e z = sym (added-none s (a n) (x n) z (folded-fits n a x s e))
+
+    by : folded_over test n a x ≡ folded n a x → (b : Bool) → test n ≡ b
+        → cond b (option_and_then (λ s. added s (a n) (x n)) (folded_over test n a x)) (folded_over test n a x) ≡ option_and_then (λ s. added s (a n) (x n)) (folded n a x)
+    by before true e = ap (option_and_then (λ s. added s (a n) (x n))) before
+    by before false e = before ∙ skips (folded n a x) refl (zero-term (a n) (x n) (h n (omega arith) e))
+
+pub sums_fit : SumsFit
+sums_fit n a x s e = record { value = folded-sum n a x s e; fits = folded-fits n a x s e }

@@ -1,39 +1,30 @@
 -- The steps of a fold.
-use Rattle.std.specs.Prelude.{◌≡◌, ◌≢◌, ℕ, zero, suc, ◌+◌, ◌-◌, ◌<◌, ◌≤◌, ℤ, pos, Bool, true, false, List, [], ◌∷◌, length, map, Option, Some, None, IsTrue, IsFalse, slice_index_or, unsigned_abs}
+use Rattle.std.specs.Prelude.{◌≡◌, ℕ, zero, suc, ◌+◌, ◌-◌, ◌<◌, ◌≤◌, ℤ, pos, Bool, true, false, List, [], ◌∷◌, length, map, Option, Some, None, IsTrue, IsFalse, slice_index_or, unsigned_abs}
 use Rattle.std.specs.Option.{option_map, option_and_then}
-use Rattle.std.specs.Ordering.{int_eq}
-use Rattle.std.proofs.Common.{refl, sym, ◌∙◌, ap, arith, add-one, zero-add, suc-add}
-use Rattle.std.proofs.lemmas.Bool.Decides.{Decides-int_eq}
+use Rattle.std.proofs.Common.{refl, sym, ◌∙◌, ap, arith, inl, add-one, zero-add, suc-add}
 use Rattle.dc_math.specs.Rational.{ℚ, ◌+ℚ◌, ◌*ℚ◌, of_ℤ}
 use Rattle.dc_frac.specs.declared.Frac.{Frac}
 use Rattle.dc_frac.specs.Value.{value, IsChecked}
-use Rattle.dc_frac.specs.Fits.{sum_fits, product_fits, IsSmall}
+use Rattle.dc_frac.specs.Fits.{fits, sum_fits, product_fits, IsSmall}
 use Rattle.dc_lp.specs.declared.Entry.{Entry}
 use Rattle.dc_lp.specs.declared.Problem.{Problem}
 use Rattle.dc_lp.specs.Problems.{IsColumn, IsWellFormed, coefficient_in, coefficient, entries}
 use Rattle.dc_lp.proofs.Columns.{row_after, row_after-rows, none_behind, next, coefficient-weight, entries-at}
 use Rattle.dc_lp.specs.Folds.{added, folded, numbers}
+use Rattle.dc_lp.proofs.FoldSums.{folded-fits, added-none, zero-term}
 
 -- ---- one term
-pub added-zero : (s : ℚ) (a : ℤ) (x : ℚ) → a ≡ pos 0 → Some s ≡ added s a x
-unfolding added
-added-zero s a x e = rw ((Decides-int_eq a (pos 0)).1 e) refl
+pub added-zero : (s : ℚ) (a : ℤ) (x : ℚ) → a ≡ pos 0 → fits s ≡ true → Some s ≡ added s a x
+added-zero s a x e h = sym (added-none s a x (zero-term a x (inl e)) h)
 
-is_nonzero : (a : ℤ) → a ≢ pos 0 → int_eq a (pos 0) ≡ false
-is_nonzero a ne = by (int_eq a (pos 0)) (Decides-int_eq a (pos 0)).0
-  where
-    by : (b : Bool) → (b ≡ true → a ≡ pos 0) → b ≡ false
-    by true f = absurd (ne (f refl))
-    by false f = refl
-
-pub added-past_product : (s : ℚ) (a : ℤ) (x : ℚ) → a ≢ pos 0 → IsFalse (product_fits (of_ℤ a) x) → None ≡ added s a x
+pub added-past_product : (s : ℚ) (a : ℤ) (x : ℚ) → IsFalse (product_fits (of_ℤ a) x) → None ≡ added s a x
 unfolding added
-added-past_product s a x ne h = rw (is_nonzero a ne, h) refl
+added-past_product s a x h = rw h refl
 
-pub added-is : (r : Option Frac) (s : ℚ) (a : ℤ) (x p : ℚ) → a ≢ pos 0 → IsTrue (product_fits (of_ℤ a) x) → p ≡ of_ℤ a *ℚ x → IsChecked r (sum_fits s p) (s +ℚ p) → option_map value r ≡ added s a x
+pub added-is : (r : Option Frac) (s : ℚ) (a : ℤ) (x p : ℚ) → IsTrue (product_fits (of_ℤ a) x) → p ≡ of_ℤ a *ℚ x → IsChecked r (sum_fits s p) (s +ℚ p) → option_map value r ≡ added s a x
 unfolding added
-added-is None s a x p ne h e c = rw (is_nonzero a ne, h, ← e, c) refl
-added-is (Some r) s a x p ne h e c = rw (is_nonzero a ne, h, ← e, c.0) (ap Some c.1)
+added-is None s a x p h e c = rw (h, ← e, c) refl
+added-is (Some r) s a x p h e c = rw (h, ← e, c.0) (ap Some c.1)
 
 -- ---- the numbers of a list
 pub numbers-at : (xs : List Frac) (i : ℕ) (d : Frac) → i < length xs → numbers xs i ≡ value (slice_index_or xs i d)
@@ -65,13 +56,13 @@ module _ (a : ℕ → ℤ) (x : ℕ → ℚ) where
       sym (ap (λ i. folded i a x) (sym k) ∙ none_after (n + 1) (m - (n + 1)) none)
 
   -- rows without an entry add nothing
-  skips : (o : Option ℚ) (n : ℕ) → a n ≡ pos 0 → option_and_then (λ s. added s (a n) (x n)) o ≡ o
-  skips None n e = refl
-  skips (Some s) n e = sym (added-zero s (a n) (x n) e)
+  skips : (o : Option ℚ) (n m : ℕ) → folded m a x ≡ o → a n ≡ pos 0 → option_and_then (λ s. added s (a n) (x n)) o ≡ o
+  skips None n m f e = refl
+  skips (Some s) n m f e = sym (added-zero s (a n) (x n) e (folded-fits m a x s f))
 
   over_gap : (n m : ℕ) → ((k : ℕ) → n ≤ k → k < m + n → a k ≡ pos 0) → folded (m + n) a x ≡ folded n a x
   over_gap n zero z = rw (zero-add n) refl
-  over_gap n (suc m) z = rw (suc-add m n, step (m + n), skips (folded (m + n) a x) (m + n) (z (m + n) (omega arith) (omega arith))) (over_gap n m (λ k l h. z k l (omega arith)))
+  over_gap n (suc m) z = rw (suc-add m n, step (m + n), skips (folded (m + n) a x) (m + n) (m + n) refl (z (m + n) (omega arith) (omega arith))) (over_gap n m (λ k l h. z k l (omega arith)))
 
   pub folded-gap : (n m : ℕ) → n ≤ m → ((k : ℕ) → n ≤ k → k < m → a k ≡ pos 0) → folded m a x ≡ folded n a x
   folded-gap n m l z =

@@ -1,5 +1,6 @@
 pub mod Firsts
 pub mod Belows
+pub mod Zeros
 pub mod Columns
 pub mod FoldSums
 pub mod FieldTests

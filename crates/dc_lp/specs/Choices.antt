@@ -36,4 +36,5 @@ NoneLeaves t j = (i : ℕ) → i < length t.basis → at t i j ≤ℚ of_ℤ (po
 
 -- no column is basic in two rows
 abbrev pub HasApartBasis : Table ℚ → Type 0
-HasApartBasis t = (i k : ℕ) → i < length t.basis → k < length t.basis → slice_index t.basis i ≡ slice_index t.basis k → i ≡ k
+HasApartBasis t = (i k : ℕ) → i < length t.basis → k < length t.basis
+    → slice_index t.basis i ≡ slice_index t.basis k → i ≡ k

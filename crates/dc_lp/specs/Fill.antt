@@ -33,3 +33,7 @@ gaps t r j = count_places (height t) (width t) (meets_gap t r j)
 pub record FillIsGaps (t : Table ℚ) (r j : ℕ) : Type 0 where
   pub each : (i k : ℕ) → i < height t → k < width t → is_filled t r j i k ≡ meets_gap t r j i k
   pub number : fill t r j ≡ gaps t r j
+
+-- the number of entries of a table that aren't 0
+unfoldable pub entry_count : Table ℚ → ℕ
+entry_count t = count_places (height t) (width t) (λ i k. not (is_zero (at t i k)))

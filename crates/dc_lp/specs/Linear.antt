@@ -55,4 +55,5 @@ HasNoSolution p = (x : ℕ → ℚ) → IsSolution p x → ⊥
 
 -- from each solution on, the cost falls below every bound
 abbrev pub HasNoBound : Linear ℚ → Type 0
-HasNoBound p = (x : ℕ → ℚ) (bound : ℚ) → IsSolution p x → (z : ℕ → ℚ) × IsSolution p z × (cost_of p z <ℚ bound)
+HasNoBound p = (x : ℕ → ℚ) (bound : ℚ) → IsSolution p x
+    → (z : ℕ → ℚ) × IsSolution p z × (cost_of p z <ℚ bound)

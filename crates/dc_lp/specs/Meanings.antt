@@ -54,7 +54,8 @@ all_below (suc n) test = all_below n test && test n
 
 -- before column j enters: the quotient of right side by entry in each row of the equations with a positive entry in column j
 unfoldable pub ratios_fit : Table ℚ → ℕ → Bool
-ratios_fit t j = all_below (length t.basis) (λ i. not (is_positive (at t i j)) || quotient_fits (at t i (right t)) (at t i j))
+ratios_fit t j = all_below (length t.basis) (λ i. not (is_positive (at t i j))
+    || quotient_fits (at t i (right t)) (at t i j))
 
 -- in the pivot's row r: each entry's quotient by the one in column j
 unfoldable pub division_fits : Table ℚ → ℕ → ℕ → Bool
@@ -64,7 +65,8 @@ division_fits t r j = all_below (width t) (λ k. quotient_fits (at t r k) (at t 
 unfoldable pub reduction_fits : Table ℚ → ℕ → ℕ → ℕ → Bool
 reduction_fits t r j i = is_zero (at t i j) || all_below (width t) (λ k.
     k == j || is_zero (divided t r j k)
-    || product_fits (at t i j) (divided t r j k) && difference_fits (at t i k) (at t i j *ℚ divided t r j k))
+    || product_fits (at t i j) (divided t r j k)
+    && difference_fits (at t i k) (at t i j *ℚ divided t r j k))
 
 unfoldable pub pivot_fits : Table ℚ → ℕ → ℕ → Bool
 pivot_fits t r j = division_fits t r j && all_below (height t) (λ i. i == r || reduction_fits t r j i)

@@ -34,7 +34,8 @@ linear_of p = record {
 -- nonzero values in rows that rise from `low` on and stay below `rows`
 abbrev pub AreEntries : ℕ → ℕ → List Entry → Type 0
 AreEntries low rows [] = Unit {0}
-AreEntries low rows (e ∷ es) = (low ≤ e.row) × (e.row < rows) × (e.value ≢ pos 0) × AreEntries (suc e.row) rows es
+AreEntries low rows (e ∷ es) = (low ≤ e.row) × (e.row < rows) × (e.value ≢ pos 0)
+    × AreEntries (suc e.row) rows es
 
 -- the sum of sizes is at most 2^127 - 1
 abbrev pub weight : List Entry → ℕ
@@ -49,4 +50,5 @@ pub record IsWellFormed (p : Problem) : Type 0 where
   pub costs : length p.cost.items ≡ length p.columns.items
   pub columns : (j : ℕ) → j < length p.columns.items → IsColumn p.rows (entries p j)
   pub right_side_weight : sum_by unsigned_abs p.b.items < 2 ^ 127
-  pub cost_sizes : (j : ℕ) → j < length p.columns.items → unsigned_abs (whole_at p.cost.items j) < 2 ^ 127
+  pub cost_sizes : (j : ℕ) → j < length p.columns.items
+      → unsigned_abs (whole_at p.cost.items j) < 2 ^ 127

@@ -103,7 +103,8 @@ module _ (Q : Type 0) (F : Field Q) where
   unfoldable pub goes_before : Table Q → ℕ → ℕ → ℕ → Bool
   goes_before t j i k =
       is_below (ratio_of t j i) (ratio_of t j k)
-      || not (is_below (ratio_of t j k) (ratio_of t j i)) && nat_lt (slice_index t.basis i) (slice_index t.basis k)
+      || not (is_below (ratio_of t j k) (ratio_of t j i))
+      && nat_lt (slice_index t.basis i) (slice_index t.basis k)
 
   abbrev pub better : Table Q → ℕ → ℕ → Option ℕ → Option ℕ
   better t j i None = Some i

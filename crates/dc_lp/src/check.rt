@@ -47,8 +47,10 @@ pub fn check_dual(p: &Problem, x: &[Frac], y: &[Frac]) -> Verdict
     requires y_length { length y.now ≡ p.now.rows }
     ensures verdict { IsVerdict (columns p.now + 1) (dual_test p.now (numbers x.now) (numbers y.now)) result }
     ensures dual { result ≡ Verdict.Holds → IsDual (linear_of p.now) (numbers y.now) }
-    ensures value { result ≡ Verdict.Holds → cost_of (linear_of p.now) (numbers x.now) ≡ combined_right (linear_of p.now) (numbers y.now) }
-    ensures best { result ≡ Verdict.Holds → CostAtLeast (linear_of p.now) (cost_of (linear_of p.now) (numbers x.now)) }
+    ensures value { result ≡ Verdict.Holds
+        → cost_of (linear_of p.now) (numbers x.now) ≡ combined_right (linear_of p.now) (numbers y.now) }
+    ensures best { result ≡ Verdict.Holds
+        → CostAtLeast (linear_of p.now) (cost_of (linear_of p.now) (numbers x.now)) }
 {
     for j in 0..p.columns.len() {
         match is_priced(p, y, p.cost[j], j) {

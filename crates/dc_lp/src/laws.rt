@@ -1,6 +1,6 @@
 //! Laws of linear problems over the rational numbers, for vectors of any numbers.
 
-ghost use Rattle.dc_lp.specs.Laws.{WeakDuality, BestByDual, RefutationExcludes, RayGoesOn, Fills, ColumnEnters, NoColumnEnters, RowLeaves, OneRowLeaves, NoRowLeaves};
+ghost use Rattle.dc_lp.specs.Laws.{WeakDuality, BestByDual, RefutationExcludes, RayGoesOn, Fills, EntriesGrow, ColumnEnters, NoColumnEnters, RowLeaves, OneRowLeaves, NoRowLeaves, SumsFit, LeavesOut};
 
 /// Weak duality: a solution costs at least the right side of each dual. So a solution whose cost is the right side of a dual is
 /// a best one.
@@ -20,9 +20,10 @@ pub fn ray()
 {}
 
 /// The fill of a pivot is fixed by where the zeros are before it: it is the number of crossings of an entry of the pivot's column
-/// with one of its row at which there is none.
+/// with one of its row at which there is none. So many entries a table has at most more after a pivot than before it.
 pub fn fill()
-    ensures { Fills }
+    ensures gaps { Fills }
+    ensures grows { EntriesGrow }
 {}
 
 /// The column that enters is the least real one with a negative entry in the cost row, and none enters exactly where there is no such
@@ -39,4 +40,11 @@ pub fn leaving()
     ensures row { RowLeaves }
     ensures one { OneRowLeaves }
     ensures none { NoRowLeaves }
+{}
+
+/// A fold that exists is the sum of its products, and it fits. Terms with a coefficient or a number that is 0 can be left out: they change
+/// neither the sum nor whether there is one.
+pub fn folds()
+    ensures sum { SumsFit }
+    ensures left_out { LeavesOut }
 {}

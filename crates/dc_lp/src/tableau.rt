@@ -78,7 +78,8 @@ pub trait Tableau {
     fn pivot(&mut self, row: usize, col: usize) -> Result<(), PastPivot>
         requires ready { meaning self.old ≡ ready_at (meaning self.old).table row col }
         requires place { IsPivotPlace (meaning self.old).table row col }
-        ensures ok { OnOk result (meaning self.new ≡ resting (pivoted (meaning self.old).table row col)) }
+        ensures ok { OnOk result (meaning self.new
+            ≡ resting (pivoted (meaning self.old).table row col)) }
         ensures err { OnErr result ((meaning self.new).broken ≡ true) }
         ensures fits { IsOk result ↔ (pivot_fits (meaning self.old).table row col ≡ true) };
 }

@@ -1,7 +1,10 @@
 //! Small problems written out by hand, with a vector for each verdict.
 use crate::tables::{at, problem};
 use dc_frac::{Frac, MAX};
-use dc_lp::{Entry, Problem, Verdict, check_dual, check_primal, check_ray, check_refutation};
+use dc_lp::{
+    Entry, Problem, Verdict, add_term, check_dual, check_primal, check_ray, check_refutation, dot,
+    price,
+};
 use std::process::Abort;
 use std::test::Fail;
 
@@ -105,6 +108,22 @@ fn sums_that_pass_128_bits(rt: HostRuntime) -> Result<(), Fail> {
     ] {
         assert_eq!(rt; dual(&rt, &p, &[zero], &y), verdict);
     }
+    Ok(())
+}
+
+// 3 * 1/2 - 5 * 1/3 = -1/6; a partial sum that passes 128 bits is refused though the whole sum is small
+#[test]
+fn folds(rt: HostRuntime) -> Result<(), Fail> {
+    let [half, third, most] = [Frac::new(1, 2), Frac::new(1, 3), Frac::whole(MAX)];
+    let result = Some(Frac::new(-1, 6));
+    assert_eq!(rt; dot(&[3, 0, -5], &[half, most, third]), result);
+    assert_eq!(rt; price(&[at(0, 3), at(2, -5)], &[half, most, third]), result);
+    assert_eq!(rt; add_term(Frac::new(3, 2), -5, third), result);
+    assert_eq!(rt;
+        dot(&[1, 1, -1], &[most, Frac::whole(1), Frac::whole(1)]),
+        None
+    );
+    assert_eq!(rt; add_term(half, 2, most), None);
     Ok(())
 }
 

@@ -15,7 +15,8 @@ StaysFeasible = (p : Linear ℚ) → laws.StaysFeasible ℚ rationals p
 -- where a pivot is due, it is at a nonzero entry of an equation in a real column
 abbrev pub PivotsHavePlaces : Type 0
 PivotsHavePlaces = (p : Linear ℚ) (n : ℕ) (s : State ℚ) (q : Phase) (r j : ℕ)
-    → run ℚ rationals p n ≡ Some s → due_at ℚ rationals s ≡ Pivot q r j → IsPivotPlace s.table r j × (j < s.table.real)
+    → run ℚ rationals p n ≡ Some s → due_at ℚ rationals s ≡ Pivot q r j
+    → IsPivotPlace s.table r j × (j < s.table.real)
 
 -- no set of basic columns comes twice in a run, whatever the phases
 abbrev pub NeverRepeats : Type 0
@@ -39,15 +40,18 @@ PhaseOneLeaves = (p : Linear ℚ) → laws.PhaseOneLeaves ℚ rationals p
 
 -- columns that are each other's negatives, with their costs, stay so, and at most one of them is used
 abbrev pub StayOpposite : Type 0
-StayOpposite = (p : Linear ℚ) (u v : ℕ) → laws.AreOpposite ℚ rationals p u v → laws.StayOpposite ℚ rationals p u v
+StayOpposite = (p : Linear ℚ) (u v : ℕ) → laws.AreOpposite ℚ rationals p u v
+    → laws.StayOpposite ℚ rationals p u v
 
 -- wherever a run ends, its last table has the certificate of that end
 abbrev pub EndsRight : Type 0
-EndsRight = (p : Linear ℚ) (n : ℕ) (s : State ℚ) (e : Ending) → run ℚ rationals p n ≡ Some s → due_at ℚ rationals s ≡ End e → Shows p s.table e
+EndsRight = (p : Linear ℚ) (n : ℕ) (s : State ℚ) (e : Ending) → run ℚ rationals p n ≡ Some s
+    → due_at ℚ rationals s ≡ End e → Shows p s.table e
 
 -- and what that end says of the problem is so
 abbrev pub EndsTrue : Type 0
-EndsTrue = (p : Linear ℚ) (n : ℕ) (s : State ℚ) (e : Ending) → run ℚ rationals p n ≡ Some s → due_at ℚ rationals s ≡ End e → Says p s.table e
+EndsTrue = (p : Linear ℚ) (n : ℕ) (s : State ℚ) (e : Ending) → run ℚ rationals p n ≡ Some s
+    → due_at ℚ rationals s ≡ End e → Says p s.table e
 
 -- every linear problem has a solution and a dual of equal value, a refutation, or a solution with a ray
 abbrev pub HasOutcome : Type 0

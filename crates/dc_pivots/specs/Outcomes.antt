@@ -12,7 +12,8 @@ pub record IsBest (p : Linear ℚ) (t : Table ℚ) : Type 0 where
   pub solution : IsSolution p (solution_at ℚ rationals t)
   pub dual : IsDual p (multiplier_at ℚ rationals p t (length t.basis + 1))
   pub cost : cost_of p (solution_at ℚ rationals t) ≡ value_of ℚ rationals t
-  pub price : combined_right p (multiplier_at ℚ rationals p t (length t.basis + 1)) ≡ value_of ℚ rationals t
+  pub price : combined_right p (multiplier_at ℚ rationals p t (length t.basis + 1))
+      ≡ value_of ℚ rationals t
 
 -- a solution, and a ray along column j
 pub record IsUnbounded (p : Linear ℚ) (t : Table ℚ) (j : ℕ) : Type 0 where

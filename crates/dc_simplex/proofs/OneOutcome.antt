@@ -8,7 +8,7 @@ use Rattle.dc_math.specs.Rational.{ℚ}
 use Rattle.dc_math.specs.RationalField.{rationals}
 use Rattle.dc_frac.specs.declared.Frac.{Frac}
 use Rattle.dc_frac.specs.Value.{value}
-use Rattle.dc_frac.specs.ValueLaws.{value_num, value_den}
+use Rattle.dc_frac.proofs.ValueLaws.{value_num, value_den}
 use Rattle.dc_lp.specs.Folds.{numbers}
 use Rattle.dc_lp.specs.Linear.{Linear}
 use Rattle.dc_lp.specs.Tables.{Table}

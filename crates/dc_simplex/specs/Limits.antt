@@ -78,4 +78,5 @@ abbrev pub HasAnswer : Type 0
 HasAnswer = (p : Linear ℚ) (budget : ℕ) → (a : Answer) × IsAnswer p budget a
 
 abbrev pub HasOneAnswer : Type 0
-HasOneAnswer = (p : Linear ℚ) (budget : ℕ) (a b : Answer) → IsAnswer p budget a → IsAnswer p budget b → a ≡ b
+HasOneAnswer = (p : Linear ℚ) (budget : ℕ) (a b : Answer) → IsAnswer p budget a
+    → IsAnswer p budget b → a ≡ b

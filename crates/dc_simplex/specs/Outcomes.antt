@@ -74,7 +74,8 @@ pub record IsOutcome (p : Linear ℚ) (o : Outcome) : Type 0 where
 
 -- the same end with the same numbers, after as many pivots
 abbrev pub AreSame : Outcome → Outcome → Type 0
-AreSame (Optimal x y v n) (Optimal x' y' v' n') = (x.items ≡ x'.items) × (y.items ≡ y'.items) × (v ≡ v') × (n ≡ n')
+AreSame (Optimal x y v n) (Optimal x' y' v' n') = (x.items ≡ x'.items) × (y.items ≡ y'.items)
+    × (v ≡ v') × (n ≡ n')
 AreSame (Infeasible y n) (Infeasible y' n') = (y.items ≡ y'.items) × (n ≡ n')
 AreSame (Unbounded x r n) (Unbounded x' r' n') = (x.items ≡ x'.items) × (r.items ≡ r'.items) × (n ≡ n')
 AreSame a b = ⊥

@@ -80,7 +80,8 @@ pub fn solve<T: Tableau>(
     ensures exact { TellsOnly (linear_of p.now) budget result }
     ensures shows { IfOk result (Shows (linear_of p.now)) }
     ensures opposites { IfOk result (UsesOneOfOpposites (linear_of p.now)) }
-    ensures enough { choose (columns p.now + p.now.rows) p.now.rows ≤ budget → (n : ℕ) → result ≢ Err (SolveFault.Budget n) }
+    ensures enough { choose (columns p.now + p.now.rows) p.now.rows ≤ budget → (n : ℕ)
+        → result ≢ Err (SolveFault.Budget n) }
 {
     let (ending, pivots) = match load_and_run(p, tableau, budget) {
         Ok(end) => end,

@@ -65,9 +65,12 @@ fn run<T: Tableau>(p: &Problem, tableau: &mut T, budget: u64) -> Result<(Ending,
 fn change<T: Tableau>(row: usize, col: usize, pivot: u64, tableau: &mut T) -> Result<(), SolveFault>
     requires usable { IsUsable (T.meaning tableau.old) }
     requires place { IsPivotPlace (T.meaning tableau.old).table row col }
-    ensures ok { OnOk result (T.meaning tableau.new ≡ resting (pivoted (T.meaning tableau.old).table row col)) }
+    ensures ok { OnOk result (T.meaning tableau.new
+        ≡ resting (pivoted (T.meaning tableau.old).table row col)) }
     ensures fits { OnOk result (pivot_fits (T.meaning tableau.old).table row col ≡ true) }
-    ensures err { IfErr result (λ e. (e ≡ SolveFault.NoMemory) ⊎ ((e ≡ SolveFault.Past128 pivot) × (pivot_fits (T.meaning tableau.old).table row col ≡ false))) }
+    ensures err { IfErr result (λ e. (e ≡ SolveFault.NoMemory)
+        ⊎ ((e ≡ SolveFault.Past128 pivot)
+        × (pivot_fits (T.meaning tableau.old).table row col ≡ false))) }
 {
     if tableau.room(row, col).is_err() {
         return Err(SolveFault::NoMemory);

@@ -1,4 +1,4 @@
-use Rattle.dc_dense.specs.Starts.{HasRows}
+use Rattle.dc_dense.specs.Rows.{HasRows}
 use Rattle.dc_dense.proofs.start.start_items.Given as goal
 
 abbrev pub invariant-loop-row : goal.invariant-loop-row

@@ -4,8 +4,8 @@ use Rattle.dc_frac.specs.Fits.{quotient_fits}
 use Rattle.dc_lp.specs.Meanings.{at, right}
 use Rattle.dc_dense.specs.Shape.{IsShaped}
 use Rattle.dc_dense.specs.Meanings.{dense_meaning}
-use Rattle.dc_dense.specs.Ratios.{row_of}
-use Rattle.dc_dense.proofs.Ratios.{best-start, best-skip, best-more, best-past, best-all}
+use Rattle.dc_start.specs.Ratios.{row_of, IsBetter}
+use Rattle.dc_start.proofs.Ratios.{best-start, best-skip, best-more, best-past, best-all, candidate-is, candidates-within}
 use Rattle.dc_dense.proofs.dense.DenseTableau.ratio_row.Goals as goal
 use Rattle.dc_dense.proofs.dense.DenseTableau.ratio_row.Goals.{then-is_positive+in-Some, else-is_positive}
 
@@ -32,10 +32,13 @@ loop-row-preserved c =
       | then-is_positive+in-Some w ↦
           let s : IsShaped d.rows d.columns d.width (vec_len d.basis) (vec_len d.items) = d.shape c.requires.usable.loaded in
           let last : d.columns + d.rows ≡ right t = omega (arith, d.basis.ok.0) in
+          let inside : c.loop-row.row < length d.basis.items = omega (arith, d.basis.ok.0) in
+          let b : IsBetter t c.args.col (record { row = c.loop-row.row; ratio = w.in-Some.ratio }) c.loop-row.best w.better.result = w.better.ensures t c.args.col w.deref.ensures.value
+          (candidate-is t c.args.col _ _ _ inside w.in-Some.ensures.1 (w.entry.ensures ∙ ap (at t c.loop-row.row) last) c.entry-entry.ensures) c.loop-row.invariant.candidates in
           rw w.best-is (best-more t c.args.col c.loop-row.row c.loop-row.best c.loop-row.invariant w.better.result
           (ap is_positive (sym c.entry-entry.ensures) ∙ sym c.is_positive.ensures ∙ w.if-is_positive.true)
           (sym (ap₂ quotient_fits (w.entry.ensures ∙ ap (at t c.loop-row.row) last) c.entry-entry.ensures) ∙ w.in-Some.ensures.0)
-          w.better.ensures.candidate w.better.ensures.row)
+          b.candidate b.row)
       | else-is_positive w ↦ rw w.best-is (best-skip t c.args.col c.loop-row.row c.loop-row.best c.loop-row.invariant (ap is_positive (sym c.entry-entry.ensures) ∙ sym c.is_positive.ensures ∙ w.if-is_positive.false))
     ]
 
@@ -47,3 +50,9 @@ returns c =
     let all : c.loop-row.row ≡ length d.basis.items = omega (arith, d.basis.ok.0, c.loop-row-test.false) in
     let e : c.map.result ≡ row_of c.loop-row.best = search rules in
     ap (λ o. Ok o) e ∙ best-all t c.args.col c.loop-row.row c.loop-row.best c.loop-row.invariant all
+
+pub better-requires-clause-best : goal.better-requires-clause-best
+better-requires-clause-best c =
+    let d = c.args.self.now in
+    let t = (dense_meaning d).table in
+    rw c.deref.ensures.value (candidates-within t c.args.col c.loop-row.best c.loop-row.invariant.candidates)

@@ -1,7 +1,0 @@
-use Rattle.std.proofs.Common.{◌∙◌, sym}
-use Rattle.dc_frac.specs.Value.{value}
-use Rattle.dc_dense.proofs.Flats.{quotient-zero}
-use Rattle.dc_dense.proofs.pivot.quotient.Goals as goal
-
-pub returns-then-is_zero : goal.returns-then-is_zero
-returns-then-is_zero c = quotient-zero (value c.args.x) (value c.args.by) (sym c.is_zero.ensures ∙ c.if-is_zero.true)

@@ -1,0 +1,4 @@
+pub mod Changes
+pub mod Ratios
+pub mod Tallies
+pub mod Loads
