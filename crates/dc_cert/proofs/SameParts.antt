@@ -8,7 +8,7 @@ use Rattle.std.proofs.Math.Bool.{So-prop}
 use Rattle.dc_math.specs.Gcd.{gcd}
 use Rattle.dc_frac.specs.declared.Frac.{Frac}
 use Rattle.dc_frac.specs.Value.{value}
-use Rattle.dc_frac.specs.ValueLaws.{value_num, value_den}
+use Rattle.dc_frac.proofs.ValueLaws.{value_num, value_den}
 
 unfoldable pub make : (n d : ℤ) → pos 1 ≤ℤ d → gcd (unsigned_abs n) (unsigned_abs d) ≡ 1 → unsigned_abs n < 2 ^ 127 → Frac
 make n d p r s = record { num = n; den = d; positive = p; reduced = r; small = s }
