@@ -1,0 +1,3 @@
+pub mod SameParts
+pub mod VectorLaws
+pub mod Returned

@@ -1,3 +1,4 @@
 pub mod Vectors
 pub mod Ranges
-pub mod VectorLaws
+pub mod Claims
+pub mod Settings

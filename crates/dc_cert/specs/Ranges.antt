@@ -1,5 +1,5 @@
 -- The ranges of a certificate that has a text.
-use Rattle.std.specs.Prelude.{◌≡◌, ◌⊎◌, ℕ, ◌≤◌, List, length}
+use Rattle.std.specs.Prelude.{◌≡◌, ◌⊎◌, ℕ, ◌≤◌, Bool, true, false, List, length}
 use Rattle.std.specs.List.{AllByRecursion}
 use Rattle.dc_frac.specs.Fits.{IsSmall}
 use Rattle.dc_affine.specs.declared.atom.Atom.{Atom}
@@ -22,6 +22,10 @@ pub record AreKeeps (keeps : List Sparse) : Type 0 where
 abbrev pub IsShown : Liveness → Type 0
 IsShown (Dead s) = IsVector s
 IsShown (Live s) = IsVector s
+
+abbrev pub is_live : Liveness → Bool
+is_live (Dead s) = false
+is_live (Live s) = true
 
 pub record IsEdge (e : EdgeCert) : Type 0 where
   pub live : IsShown e.live

@@ -1,5 +1,5 @@
 -- Sparse vectors: their items, and the vector that they stand for.
-use Rattle.std.specs.Prelude.{◌≡◌, ℕ, suc, ◌≤◌, ◌<◌, eqb, cond, List, [], ◌∷◌, length, slice_index_or, pos, IsFalse}
+use Rattle.std.specs.Prelude.{◌≡◌, ℕ, suc, ◌≤◌, ◌<◌, eqb, cond, List, [], ◌∷◌, length, All, slice_index_or, pos, IsFalse}
 use Rattle.dc_math.specs.Rational.{ℚ, of_ℤ}
 use Rattle.dc_math.specs.Tests.{is_zero}
 use Rattle.dc_frac.specs.declared.Frac.{Frac}
@@ -49,3 +49,7 @@ pub record IsDense (n : ℕ) (s : Sparse) (v : List Frac) : Type 0 where
 -- the items of a vector keep each value at its index
 abbrev pub KeepsEach : Type 0
 KeepsEach = (v : List Frac) (k : ℕ) (d : Frac) → k < length v → entry_of (nonzero_from 0 v) k ≡ value (slice_index_or v k d)
+
+-- the items of the vector that items below its length stand for are these items
+abbrev pub ItemsReturn : Type 0
+ItemsReturn = (n : ℕ) (s : Sparse) (v : List Frac) → IsVector s → All (IsBelow n) s.items → IsDense n s v → nonzero_from 0 v ≡ s.items

@@ -1,8 +1,13 @@
 //! The parts of a certificate. `specs/Ranges` says which certificates have a text.
+ghost use Rattle.std.specs.Prelude.{◌≡◌, ◌↔◌, IfOk, IsTrue};
+ghost use Rattle.dc_cert.specs.Claims.{claim_of};
+ghost use Rattle.dc_cert.specs.Ranges.{is_live as shows_live};
+
 use crate::sparse::Sparse;
 use dc_affine::Atom;
 use dc_frac::Frac;
 use sqlite_items::Items;
+use std::alloc::{AllocError, Global};
 
 /// Whether a list of atoms has no rational point (`Dead`, with the multipliers that combine them to -1) or
 /// has one (`Live`, with a vector that names it).
@@ -22,12 +27,45 @@ impl Drop for Liveness {
     }
 }
 
+impl Liveness {
+    /// Whether it says that there is a point.
+    pub fn is_live(&self) -> bool
+        ensures { result ≡ shows_live self.now }
+    {
+        match self {
+            Liveness::Dead(_) => false,
+            Liveness::Live(_) => true,
+        }
+    }
+
+    /// A copy.
+    pub fn copy(&self, alloc: Global) -> Result<Liveness, AllocError>
+        ensures { IfOk result (λ l. l ≡ self.now) }
+    {
+        match self {
+            Liveness::Dead(s) => Ok(Liveness::Dead(s.copy(alloc)?)),
+            Liveness::Live(s) => Ok(Liveness::Live(s.copy(alloc)?)),
+        }
+    }
+}
+
 /// What is kept of an edge: whether its source's atoms with its guard are live, and for each atom of its
 /// target the multipliers that show it after the edge.
 #[derive(Debug, Drop)]
 pub struct EdgeCert {
     pub live: Liveness,
     pub keeps: Items<Sparse>,
+}
+
+impl EdgeCert {
+    /// A copy.
+    pub fn copy(&self, alloc: Global) -> Result<EdgeCert, AllocError>
+        ensures { IfOk result (λ e. e ≡ self.now) }
+    {
+        let live = self.live.copy(alloc)?;
+        let keeps = copy_vectors(alloc, self.keeps.as_slice())?;
+        Ok(EdgeCert { live, keeps })
+    }
 }
 
 /// What is kept of one program: the atoms of each location; for each case of the condition the multipliers
@@ -49,6 +87,74 @@ impl Drop for SideCert {
             exit_line: _exit_line,
         } = self;
     }
+}
+
+impl SideCert {
+    /// A copy.
+    pub fn copy(&self, alloc: Global) -> Result<SideCert, AllocError>
+        ensures { IfOk result (λ s. s ≡ self.now) }
+    {
+        let families = copy_families(alloc, self.families.as_slice())?;
+        let entry_keeps = copy_keeps(alloc, self.entry_keeps.as_slice())?;
+        let edges = copy_edges(alloc, self.edges.as_slice())?;
+        let exit_line = self.exit_line.copy(alloc)?;
+        Ok(SideCert {
+            families,
+            entry_keeps,
+            edges,
+            exit_line,
+        })
+    }
+}
+
+fn copy_vectors(alloc: Global, list: &[Sparse]) -> Result<Items<Sparse>, AllocError>
+    ensures { IfOk result (λ l. l ≡ list.now) }
+{
+    let mut copies = Items::new(alloc);
+    for s in list {
+        copies.push(s.copy(alloc)?)?;
+    }
+    Ok(copies)
+}
+
+fn copy_atoms(alloc: Global, list: &[Atom]) -> Result<Items<Atom>, AllocError>
+    ensures { IfOk result (λ l. l ≡ list.now) }
+{
+    let mut copies = Items::new(alloc);
+    for a in list {
+        copies.push(a.copy(alloc)?)?;
+    }
+    Ok(copies)
+}
+
+fn copy_families(alloc: Global, list: &[Items<Atom>]) -> Result<Items<Items<Atom>>, AllocError>
+    ensures { IfOk result (λ l. l ≡ list.now) }
+{
+    let mut copies = Items::new(alloc);
+    for atoms in list {
+        copies.push(copy_atoms(alloc, atoms.as_slice())?)?;
+    }
+    Ok(copies)
+}
+
+fn copy_keeps(alloc: Global, list: &[Items<Sparse>]) -> Result<Items<Items<Sparse>>, AllocError>
+    ensures { IfOk result (λ l. l ≡ list.now) }
+{
+    let mut copies = Items::new(alloc);
+    for keeps in list {
+        copies.push(copy_vectors(alloc, keeps.as_slice())?)?;
+    }
+    Ok(copies)
+}
+
+fn copy_edges(alloc: Global, list: &[EdgeCert]) -> Result<Items<EdgeCert>, AllocError>
+    ensures { IfOk result (λ l. l ≡ list.now) }
+{
+    let mut copies = Items::new(alloc);
+    for e in list {
+        copies.push(e.copy(alloc)?)?;
+    }
+    Ok(copies)
 }
 
 /// What is claimed, with the vectors of the main problem that show it.
@@ -90,6 +196,30 @@ impl Drop for Body {
                 ray_unknown: _ray_unknown,
                 ray_lambda: _ray_lambda,
             } => {}
+        }
+    }
+}
+
+/// What is claimed, without the vectors that show it.
+#[derive(Clone, Copy, Debug, PartialEq, Eq)]
+pub enum Claim {
+    /// The least threshold.
+    Threshold(Frac),
+    /// No threshold can be certified.
+    Nothing,
+    /// Every threshold can be certified.
+    Vacuous,
+}
+
+impl Body {
+    /// The claim.
+    pub fn claim(&self) -> Claim
+        ensures { result ≡ claim_of self.now }
+    {
+        match self {
+            Body::Threshold { t, .. } => Claim::Threshold(*t),
+            Body::Nothing { .. } => Claim::Nothing,
+            Body::Vacuous { .. } => Claim::Vacuous,
         }
     }
 }

@@ -5,5 +5,5 @@ mod certificate;
 pub mod laws;
 mod sparse;
 
-pub use certificate::{Body, Certificate, EdgeCert, Liveness, Settings, SideCert};
+pub use certificate::{Body, Certificate, Claim, EdgeCert, Liveness, Settings, SideCert};
 pub use sparse::{Item, Sparse, dense_of, sparse_of};

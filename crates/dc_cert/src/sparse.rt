@@ -1,5 +1,5 @@
 //! Sparse vectors of fractions.
-ghost use Rattle.std.specs.Prelude.{ℕ, ◌≡◌, ◌≤◌, ◌<◌, length, slice_index_or, All, IfOk};
+ghost use Rattle.std.specs.Prelude.{ℕ, ◌≡◌, ◌≤◌, ◌<◌, ◌↔◌, length, slice_index_or, All, IfOk, IsTrue};
 ghost use Rattle.dc_frac.specs.declared.Frac.{Frac as Fraction};
 ghost use Rattle.dc_frac.specs.Fits.{IsSmall};
 ghost use Rattle.dc_frac.specs.Value.{value};
@@ -20,6 +20,25 @@ pub struct Item {
 #[derive(Debug, Drop)]
 pub struct Sparse {
     pub items: Items<Item>,
+}
+
+impl Sparse {
+    /// Whether each index is below a number.
+    pub fn is_below(&self, len: usize) -> bool
+        ensures { IsTrue result ↔ All (IsBelow len) self.now.items }
+    {
+        self.items.as_slice().iter().all(|item| item.index < len)
+    }
+
+    /// A copy.
+    pub fn copy(&self, alloc: Global) -> Result<Sparse, AllocError>
+        ensures { IfOk result (λ s. s ≡ self.now) }
+    {
+        let items = Vec::from_slice(alloc, self.items.as_slice())?;
+        Ok(Sparse {
+            items: Items::from_vec(items),
+        })
+    }
 }
 
 // An item, whose parts have the sizes of their types.

@@ -11,9 +11,10 @@ use Rattle.dc_cert.specs.declared.certificate.Liveness.{Liveness}
 use Rattle.dc_cert.specs.declared.certificate.Liveness.TheVariants.{Dead, Live}
 use Rattle.dc_cert.specs.Vectors.{IsVector}
 use Rattle.dc_cert.specs.Ranges.{IsShown}
-use Rattle.dc_certtext.specs.Words.{Bytes, atom_text, frac_text, vector_text}
+use Rattle.dc_lines.specs.Bytes.{Bytes}
+use Rattle.dc_certtext.specs.Words.{atom_text, frac_text, vector_text}
 use Rattle.dc_certtext.specs.Text.{shown_text}
-use Rattle.dc_certtext.proofs.Distinct.{cancel}
+use Rattle.dc_lines.proofs.Cutting.{cancel}
 
 -- the word isn't there, or what stands behind it is of no such kind
 pub no_word : (w l t : Bytes) → ((r : Bytes) → ¬ (l ≡ w ++ r)) → ¬ (w ++ t ≡ l)

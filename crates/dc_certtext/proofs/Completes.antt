@@ -9,19 +9,19 @@ use Rattle.dc_cert.specs.declared.certificate.EdgeCert.{EdgeCert}
 use Rattle.dc_cert.specs.declared.certificate.SideCert.{SideCert}
 use Rattle.dc_cert.specs.declared.certificate.Certificate.{Certificate}
 use Rattle.dc_cert.specs.Ranges.{HasCases}
-use Rattle.dc_certtext.specs.declared.stage.Claim.{Claim}
-use Rattle.dc_certtext.specs.declared.stage.Claim.TheVariants as C
+use Rattle.dc_cert.specs.declared.certificate.Claim.{Claim}
+use Rattle.dc_cert.specs.declared.certificate.Claim.TheVariants as C
 use Rattle.dc_certtext.specs.declared.stage.Head.{Head}
 use Rattle.dc_certtext.specs.declared.stage.Front.{Front}
 use Rattle.dc_certtext.specs.declared.stage.Found.{Found}
 use Rattle.dc_certtext.specs.declared.stage.Found.TheVariants as F
 use Rattle.dc_certtext.specs.declared.stage.Stage.{Stage}
 use Rattle.dc_certtext.specs.declared.stage.Stage.TheVariants.{Start, Whole, Version, Sizes, Cases, Heads, Opened, Locations, Entries, Edges, Between, Closed, Main, End, Done}
-use Rattle.dc_certtext.specs.Words.{Bytes}
+use Rattle.dc_lines.specs.Bytes.{Bytes}
 use Rattle.dc_certtext.specs.Text.{shown_line, numbered, whole_line, sizes_line, entry_line}
 use Rattle.dc_certtext.specs.Offers.{Any}
 use Rattle.dc_certtext.specs.Stages.{head, with_when, front, edge_of, side_of, closed_by, offers}
-use Rattle.dc_certtext.proofs.Kept.{length-more}
+use Rattle.dc_lines.proofs.Cutting.{length-more}
 use Rattle.dc_certtext.proofs.Valid.{IsHead, Lacking, Valid}
 use Rattle.dc_certtext.proofs.Paths.{Runs, stop, more, below-ltb, not-ltb}
 

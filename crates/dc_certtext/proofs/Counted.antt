@@ -1,27 +1,19 @@
 -- The numbers of an atom, as they are read from the left.
-use Rattle.std.specs.Prelude.{◌≡◌, ℕ, suc, ◌≤◌, ◌<◌, List, [], ◌∷◌, ◌++◌, length, ℤ, unsigned_abs, refl}
+use Rattle.std.specs.Prelude.{◌≡◌, ℕ, suc, ◌≤◌, ◌<◌, ◌^◌, List, [], ◌∷◌, ◌++◌, length, ℤ, unsigned_abs, refl}
 use Rattle.std.proofs.Common.{sym, ◌∙◌, ap, ap₂, subst, arith, append_assoc, inl}
 use Rattle.std.proofs.lemmas.List.{append-nil}
 use Rattle.std.specs.Fmt.{signed_decimal}
 use Rattle.dc_affine.specs.declared.atom.Atom.{Atom}
 use Rattle.dc_affine.specs.Atoms.{IsAtom, AllFit}
-use Rattle.dc_certtext.specs.Words.{Bytes, spaced, atom_text}
-use Rattle.dc_certtext.specs.Cuts.{Starts}
-use Rattle.dc_certtext.proofs.Cutting.{same_cut, spaced-starts, spaced-append}
-use Rattle.dc_certtext.proofs.Numerals.{whole_lacks, whole_one}
-use Rattle.dc_certtext.proofs.Kept.{length-more}
+use Rattle.dc_lines.specs.Bytes.{Bytes, spaced}
+use Rattle.dc_certtext.specs.Words.{atom_text}
+use Rattle.dc_lines.specs.Cuts.{Starts}
+use Rattle.dc_lines.proofs.Cutting.{nil_not, same_cut, spaced-starts, spaced-append, length-more}
+use Rattle.dc_lines.proofs.Fields.{number_cut}
 
-tail_of : (x : ℕ) (u v : Bytes) → x ∷ u ≡ x ∷ v → u ≡ v
-tail_of x u v e = cc
-
-nil_not : (x : ℕ) (u v : Bytes) → x ∷ u ≡ v → v ≡ [] → ⊥
-nil_not x u v e f = cc
-
-number_cut : (y z : ℤ) (r s t : Bytes) → unsigned_abs y ≤ 2147483648 → unsigned_abs z ≤ 2147483648 → Starts 32 r → Starts 32 s → 32 ∷ (signed_decimal y ++ r) ≡ t → 32 ∷ (signed_decimal z ++ s) ≡ t → (y ≡ z) × (r ≡ s)
-number_cut y z r s t h k i j d e =
-    let c = same_cut 32 (signed_decimal y) (signed_decimal z) r s (whole_lacks 32 y (inl (inl (omega arith))) (omega arith)) (whole_lacks 32 z (inl (inl (omega arith))) (omega arith)) i j
-    (tail_of 32 (signed_decimal y ++ r) (signed_decimal z ++ s) (d ∙ sym e)) in
-    (whole_one y z (omega arith) (omega arith) c.0, c.1)
+-- two readings of a coefficient are one
+coef_cut : (y z : ℤ) (r s t : Bytes) → unsigned_abs y ≤ 2147483648 → unsigned_abs z ≤ 2147483648 → Starts 32 r → Starts 32 s → 32 ∷ (signed_decimal y ++ r) ≡ t → 32 ∷ (signed_decimal z ++ s) ≡ t → (y ≡ z) × (r ≡ s)
+coef_cut y z r s t h k i j d e = number_cut y z r s t (omega arith) (omega arith) i j d e
 
 fit-append : (xs ys : List ℤ) → AllFit xs → AllFit ys → AllFit (xs ++ ys)
 fit-append [] ys h k = k
@@ -48,7 +40,7 @@ counted_start text c rest h s e = record {
   fit = tt;
   few = omega arith;
   only = λ a i q.
-      let p = number_cut a.c0 c (spaced signed_decimal a.coefs) rest text i.constant_within h (spaced-starts signed_decimal a.coefs) s q e in
+      let p = coef_cut a.c0 c (spaced signed_decimal a.coefs) rest text i.constant_within h (spaced-starts signed_decimal a.coefs) s q e in
       record { constant = p.0; more = a.coefs; whole = refl; fit = i.coefs_within; left = p.1 };
 }
 
@@ -70,7 +62,7 @@ counted_step text c cs ds rest z r h s e n k t = subst (λ x. Counted text c x r
         by : (more : List ℤ) → a.coefs ≡ cs ++ more → AllFit more → spaced signed_decimal more ≡ rest → Left c (cs ++ z ∷ []) r a
         by [] w f q = absurd (nil_not 32 (signed_decimal z ++ r) rest e (sym q))
         by (y ∷ more) w f q =
-            let p = number_cut y z (spaced signed_decimal more) r rest (let x = f.0 in omega arith) (omega arith) (spaced-starts signed_decimal more) s q e in
+            let p = coef_cut y z (spaced signed_decimal more) r rest (let x = f.0 in omega arith) (omega arith) (spaced-starts signed_decimal more) s q e in
             record { constant = l.constant; more = more; whole = w ∙ ap (λ x. cs ++ x ∷ more) p.0 ∙ sym (append_assoc cs (z ∷ []) more); fit = f.1; left = p.1 }
 
 pub counted_end : (text : Bytes) (c : ℤ) (cs : List ℤ) (rest : Bytes) (a : Atom) → rest ≡ [] → a.c0 ≡ c → a.coefs ≡ cs → Counted text c cs rest → IsAtom 10 a × (atom_text a ≡ text)
@@ -94,7 +86,7 @@ counted_wide text c cs rest z r h s d g t a i e = let l = t.only a i e in by l.m
     by : (more : List ℤ) → AllFit more → spaced signed_decimal more ≡ rest → ⊥
     by [] f q = nil_not 32 (signed_decimal z ++ r) rest d (sym q)
     by (y ∷ more) f q =
-        let p = number_cut y z (spaced signed_decimal more) r rest (let x = f.0 in omega arith) h (spaced-starts signed_decimal more) s q d in let m = ap unsigned_abs p.0 in let x = f.0 in omega arith
+        let p = coef_cut y z (spaced signed_decimal more) r rest (let x = f.0 in omega arith) h (spaced-starts signed_decimal more) s q d in let m = ap unsigned_abs p.0 in let x = f.0 in omega arith
 
 pub counted_many : (text : Bytes) (c : ℤ) (cs : List ℤ) (rest : Bytes) → ¬ (rest ≡ []) → 10 ≤ length cs → Counted text c cs rest → (a : Atom) → IsAtom 10 a → ¬ (atom_text a ≡ text)
 counted_many text c cs rest n g t a i e = let l = t.only a i e in by l.more l.whole l.left
@@ -109,3 +101,14 @@ counted_many text c cs rest n g t a i e = let l = t.only a i e in by l.more l.wh
 
 pub no_constant : (text : Bytes) → ((z : ℤ) (r : Bytes) → unsigned_abs z ≤ 2147483648 → Starts 32 r → ¬ (32 ∷ (signed_decimal z ++ r) ≡ text)) → (a : Atom) → IsAtom 10 a → ¬ (atom_text a ≡ text)
 no_constant text g a i e = g a.c0 (spaced signed_decimal a.coefs) i.constant_within (spaced-starts signed_decimal a.coefs) e
+
+-- ---- a number that is wider than a constant of an atom
+field_wide : (n : ℕ) → n ≤ 2147483648 → n < 2 ^ 63
+field_wide n h = omega arith
+
+pub no_number : (t : Bytes) → ((z : ℤ) (r : Bytes) → unsigned_abs z < 2 ^ 63 → Starts 32 r → ¬ (32 ∷ (signed_decimal z ++ r) ≡ t)) → (z : ℤ) (r : Bytes) → unsigned_abs z ≤ 2147483648 → Starts 32 r → ¬ (32 ∷ (signed_decimal z ++ r) ≡ t)
+no_number t g z r h s e = g z r (field_wide (unsigned_abs z) h) s e
+
+pub wide_number : (t : Bytes) (y : ℤ) (q : Bytes) → unsigned_abs y < 2 ^ 63 → Starts 32 q → 32 ∷ (signed_decimal y ++ q) ≡ t → 2147483648 < unsigned_abs y
+    → (z : ℤ) (r : Bytes) → unsigned_abs z ≤ 2147483648 → Starts 32 r → ¬ (32 ∷ (signed_decimal z ++ r) ≡ t)
+wide_number t y q l k d w z r h s e = let p = ap unsigned_abs (number_cut y z q r t (omega arith) (omega arith) k s d e).0 in omega arith

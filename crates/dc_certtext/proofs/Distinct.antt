@@ -1,9 +1,9 @@
 -- At each stage a line is taken in one way at most.
-use Rattle.std.specs.Prelude.{◌≡◌, ℕ, suc, ◌≤◌, Bool, true, false, cond, eqb, List, [], ◌∷◌, ◌++◌, codes, refl}
+use Rattle.std.specs.Prelude.{◌≡◌, ℕ, suc, ◌≤◌, Bool, true, false, cond, eqb, List, [], ◌∷◌, ◌++◌, codes, refl, ℤ, unsigned_abs}
 use Rattle.std.proofs.Common.{sym, ◌∙◌, ap, ap₂, subst, arith, inl, inr}
 use Rattle.std.proofs.lemmas.Bool.{eq-eqb}
 use Rattle.std.proofs.lemmas.List.{append-nil}
-use Rattle.std.specs.Fmt.{decimal}
+use Rattle.std.specs.Fmt.{decimal, signed_decimal}
 use Rattle.dc_affine.specs.declared.atom.Atom.{Atom}
 use Rattle.dc_affine.specs.Atoms.{IsAtom, AllFit}
 use Rattle.dc_cert.specs.declared.sparse.Item.{Item}
@@ -15,20 +15,19 @@ use Rattle.dc_cert.specs.Ranges.{IsShown}
 use Rattle.dc_cert.specs.declared.certificate.SideCert.{SideCert}
 use Rattle.dc_certtext.specs.declared.stage.Head.{Head}
 use Rattle.dc_certtext.specs.declared.stage.Stage.{Stage}
-use Rattle.dc_certtext.specs.declared.stage.Claim.{Claim}
-use Rattle.dc_certtext.specs.declared.stage.Claim.TheVariants as C
+use Rattle.dc_cert.specs.declared.certificate.Claim.{Claim}
+use Rattle.dc_cert.specs.declared.certificate.Claim.TheVariants as C
 use Rattle.dc_certtext.specs.declared.stage.Found.{Found}
 use Rattle.dc_certtext.specs.declared.stage.Found.TheVariants as F
 use Rattle.dc_certtext.specs.declared.stage.Stage.TheVariants.{Start, Whole, Version, Sizes, Cases, Heads, Opened, Locations, Entries, Edges, Between, Closed, Main, End, Done}
-use Rattle.dc_certtext.specs.Words.{Bytes, item_text, spaced, frac_text, vector_text, atom_text}
-use Rattle.dc_certtext.proofs.Cutting.{same_cut, spaced-starts}
-use Rattle.dc_certtext.proofs.Numerals.{decimal_one, whole_lacks, whole_one, digits-lack, decimal_digits}
+use Rattle.dc_lines.specs.Bytes.{Bytes, spaced}
+use Rattle.dc_certtext.specs.Words.{item_text, frac_text, vector_text, atom_text}
+use Rattle.dc_lines.proofs.Cutting.{cancel, same_cut, spaced-starts}
+use Rattle.dc_lines.proofs.Numerals.{decimal_one, whole_lacks, whole_one, digits-lack, decimal_digits}
 use Rattle.dc_certtext.proofs.Fractions.{item-lacks, item_one, frac_one}
 use Rattle.dc_certtext.specs.Text.{shown_text}
 use Rattle.dc_certtext.specs.Offers.{Then, plain, vector, shown, atom, fraction, number, sizes, Offer, Takes, Any}
 use Rattle.dc_certtext.specs.Stages.{offers, vectors_next}
-use Rattle.std.specs.Fmt.{signed_decimal}
-use Rattle.std.specs.Prelude.{ℤ, unsigned_abs}
 
 -- ---- the words of a stage differ before one of them ends
 abbrev pub apart : Bytes → Bytes → Bool
@@ -79,10 +78,6 @@ items_same low (i ∷ is) (j ∷ js) h k e =
 
 pub vector_same : (v w : Sparse) → IsVector v → IsVector w → vector_text v ≡ vector_text w → v ≡ w
 vector_same v w h k e = ap (λ is. record { items = is }) (items_same 0 v.items w.items h k e)
-
-pub cancel : (k x y : Bytes) → k ++ x ≡ k ++ y → x ≡ y
-cancel [] x y e = e
-cancel (a ∷ k) x y e = cancel k x y (let f : a ∷ (k ++ x) ≡ a ∷ (k ++ y) = e in cc)
 
 pub shown_same : (l m : Liveness) → IsShown l → IsShown m → shown_text l ≡ shown_text m → l ≡ m
 shown_same (Dead v) (Dead w) h k e = ap Dead (vector_same v w h k (cancel (codes " dead") (vector_text v) (vector_text w) e))

@@ -10,44 +10,23 @@ use Rattle.dc_cert.specs.declared.certificate.Liveness.TheVariants.{Dead, Live}
 use Rattle.dc_cert.specs.Vectors.{AreItems}
 use Rattle.dc_cert.specs.Ranges.{IsShown}
 use Rattle.dc_certtext.specs.declared.stage.Head.{Head}
-use Rattle.dc_certtext.specs.declared.stage.Claim.{Claim}
-use Rattle.dc_certtext.specs.declared.stage.Claim.TheVariants as C
+use Rattle.dc_cert.specs.declared.certificate.Claim.{Claim}
+use Rattle.dc_cert.specs.declared.certificate.Claim.TheVariants as C
 use Rattle.dc_certtext.specs.declared.stage.Found.{Found}
 use Rattle.dc_certtext.specs.declared.stage.Found.TheVariants as F
 use Rattle.dc_certtext.specs.declared.stage.Stage.{Stage}
 use Rattle.dc_certtext.specs.declared.stage.Stage.TheVariants.{Start, Whole, Version, Sizes, Cases, Heads, Opened, Locations, Entries, Edges, Between, Closed, Main, End, Done}
-use Rattle.dc_certtext.specs.Words.{Bytes, item_text, spaced, vector_text, atom_text, frac_text}
-use Rattle.dc_certtext.specs.Cuts.{Lacks}
-use Rattle.dc_certtext.proofs.Cutting.{lacks-append}
+use Rattle.dc_lines.specs.Bytes.{Bytes, spaced}
+use Rattle.dc_certtext.specs.Words.{item_text, vector_text, atom_text, frac_text}
+use Rattle.dc_lines.specs.Cuts.{Lacks}
+use Rattle.dc_lines.proofs.Cutting.{lacks, lacks-append, word-lacks}
+use Rattle.dc_lines.proofs.Numerals.{number-lacks, signed-lacks, numbers-lack}
 use Rattle.dc_certtext.proofs.Fractions.{frac_lacks}
 use Rattle.dc_certtext.specs.Text.{shown_text, numbered, entry_line}
 use Rattle.dc_certtext.specs.Offers.{Then, plain, vector, shown, atom, fraction, number, sizes, Offer, Takes, Any}
 use Rattle.dc_certtext.specs.Stages.{offers, vectors_next}
 
 -- ---- words and numbers
-digit_kept : (n : ℕ) → n < 10 → ¬ (digit_glyph false n ≡ 10)
-digit_kept n h e = by (ltb n 10) e
-  where
-    by : (t : Bool) → cond t (48 + n) (87 + n) ≡ 10 → ⊥
-    by true q = omega arith
-    by false q = omega arith
-
-onto-lacks : (k n : ℕ) (acc : Bytes) → Lacks 10 acc → Lacks 10 (digits_onto k 10 false n acc)
-onto-lacks zero n acc h = h
-onto-lacks (suc k) n acc h = by (onto-lacks k (n / 10) (digit_glyph false (n % 10) ∷ acc) (digit_kept (n % 10) (omega arith), h)) (eqb (n / 10) 0)
-  where
-    by : Lacks 10 (digits_onto k 10 false (n / 10) (digit_glyph false (n % 10) ∷ acc)) → (t : Bool) → Lacks 10 (cond t (digit_glyph false (n % 10) ∷ acc) (digits_onto k 10 false (n / 10) (digit_glyph false (n % 10) ∷ acc)))
-    by r true = (digit_kept (n % 10) (omega arith), h)
-    by r false = r
-
-pub number-lacks : (n : ℕ) → Lacks 10 (decimal n)
-unfolding digits
-number-lacks n = onto-lacks 64 n [] tt
-
-signed-lacks : (z : ℤ) → Lacks 10 (signed_decimal z)
-signed-lacks (pos n) = number-lacks n
-signed-lacks (negsuc n) = ((λ e. omega arith), number-lacks (suc n))
-
 items-lack : (low : ℕ) (is : List Item) → AreItems low is → Lacks 10 (spaced item_text is)
 items-lack low [] h = tt
 items-lack low (i ∷ is) h = (
@@ -55,24 +34,6 @@ items-lack low (i ∷ is) h = (
   lacks-append 10 (item_text i) (spaced item_text is)
       (lacks-append 10 (decimal i.index) (58 ∷ frac_text i.value) (number-lacks i.index) ((λ e. omega arith), frac_lacks 10 i.value (inl (omega arith)) h.1.small)) (items-lack (suc i.index) is h.2),
 )
-
-numbers-lack : (zs : List ℤ) → Lacks 10 (spaced signed_decimal zs)
-numbers-lack [] = tt
-numbers-lack (z ∷ zs) = ((λ e. omega arith), lacks-append 10 (signed_decimal z) (spaced signed_decimal zs) (signed-lacks z) (numbers-lack zs))
-
--- a word that is written out
-lacks : Bytes → Bool
-lacks [] = true
-lacks (x ∷ xs) = cond (eqb x 10) false (lacks xs)
-
-word-lacks : (xs : Bytes) → lacks xs ≡ true → Lacks 10 xs
-unfolding lacks
-word-lacks [] h = tt
-word-lacks (x ∷ xs) h = by (eqb x 10) refl h (word-lacks xs)
-  where
-    by : (t : Bool) → eqb x 10 ≡ t → cond t false (lacks xs) ≡ true → (lacks xs ≡ true → Lacks 10 xs) → (¬ (x ≡ 10)) × Lacks 10 xs
-    by true e h r = (let q : false ≡ true = h in cc)
-    by false e h r = (eqb-false x 10 e, r h)
 
 shown-lacks : (l : Liveness) → IsShown l → Lacks 10 (shown_text l)
 unfolding lacks

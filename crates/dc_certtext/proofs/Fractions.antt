@@ -14,35 +14,13 @@ use Rattle.dc_math.specs.Tests.{is_zero}
 use Rattle.dc_frac.specs.Value.{value}
 use Rattle.dc_cert.specs.declared.sparse.Item.{Item}
 use Rattle.dc_cert.specs.Vectors.{IsItem}
-use Rattle.dc_certtext.specs.Words.{Bytes, den_text, frac_text, item_text}
-use Rattle.dc_certtext.specs.Cuts.{Lacks, Starts, until, onward}
-use Rattle.dc_certtext.proofs.Cutting.{until-append, onward-append, cut_whole, same_cut, lacks-append, differ-eqb}
-use Rattle.dc_certtext.proofs.Numerals.{Digits, digits-lack, decimal_digits, decimal_one, whole_lacks, whole_one}
-
--- ---- signed numbers, as they are read
-pub whole_minus : (n : ℕ) (w r : Bytes) → 0 < n → decimal n ≡ r → w ≡ 45 ∷ r → signed_decimal (neg_ℤ (pos n)) ≡ w
-whole_minus zero w r h e q = absurd (omega arith)
-whole_minus (suc n) w r h e q = ap (λ l. 45 ∷ l) e ∙ sym q
-
-pub refuse_minus : (w r : Bytes) → w ≡ 45 ∷ r → ((n : ℕ) → n < 2 ^ 127 → ¬ (decimal n ≡ r)) → (z : ℤ) → unsigned_abs z < 2 ^ 127 → ¬ (signed_decimal z ≡ w)
-refuse_minus w r q k (pos n) h e = let d = subst Digits (e ∙ q) (decimal_digits n h) in omega (arith, d.0)
-refuse_minus w r q k (negsuc n) h e = k (suc n) h (tail (e ∙ q))
-  where
-    tail : 45 ∷ decimal (suc n) ≡ 45 ∷ r → decimal (suc n) ≡ r
-    tail e = cc
-
-pub refuse_minus_zero : (w r : Bytes) (n : ℕ) → w ≡ 45 ∷ r → n ≡ 0 → decimal n ≡ r → (z : ℤ) → unsigned_abs z < 2 ^ 127 → ¬ (signed_decimal z ≡ w)
-refuse_minus_zero w r n q i k (pos m) h e = let d = subst Digits (e ∙ q) (decimal_digits m h) in omega (arith, d.0)
-refuse_minus_zero w r n q i k (negsuc m) h e = let f = decimal_one (suc m) n h (omega arith) (tail (e ∙ q) ∙ sym k) in omega arith
-  where
-    tail : 45 ∷ decimal (suc m) ≡ 45 ∷ r → decimal (suc m) ≡ r
-    tail e = cc
-
-pub refuse_plain : (w : Bytes) → ((r : Bytes) → ¬ (w ≡ 45 ∷ r)) → ((n : ℕ) → n < 2 ^ 127 → ¬ (decimal n ≡ w)) → (z : ℤ) → unsigned_abs z < 2 ^ 127 → ¬ (signed_decimal z ≡ w)
-refuse_plain w k g (pos n) h e = g n h e
-refuse_plain w k g (negsuc n) h e = k (decimal (suc n)) (sym e)
-
-pub ruleset wholes = (whole_minus, refuse_minus, refuse_minus_zero, refuse_plain)
+use Rattle.dc_cert.proofs.SameParts.{same_parts}
+use Rattle.dc_lines.specs.Bytes.{Bytes}
+use Rattle.dc_certtext.specs.Words.{den_text, frac_text, item_text}
+use Rattle.dc_lines.specs.Cuts.{Lacks, Starts, until, onward}
+use Rattle.dc_lines.proofs.Cutting.{tail_of, until-append, onward-append, cut_whole, same_cut, lacks-append}
+use Rattle.std.proofs.lemmas.Bool.{ne_eqb}
+use Rattle.dc_lines.proofs.Numerals.{Digits, digits-lack, decimal_digits, decimal_one, whole_lacks, whole_one}
 
 -- ---- denominators
 den_by : (n : ℕ) (t : Bool) → eqb n 1 ≡ t → den_text n ≡ cond t [] (47 ∷ decimal n)
@@ -52,7 +30,7 @@ pub den_one_is : den_text 1 ≡ []
 den_one_is = refl
 
 pub den_more : (n : ℕ) → 2 ≤ n → den_text n ≡ 47 ∷ decimal n
-den_more n h = den_by n false (differ-eqb n 1 (λ e. omega arith))
+den_more n h = den_by n false (ne_eqb n 1 (λ e. omega arith))
 
 pub den-starts : (n : ℕ) → Starts 47 (den_text n)
 den-starts n = by (eqb n 1)
@@ -69,9 +47,6 @@ den_cases : (n : ℕ) → 1 ≤ n → Den n
 den_cases zero h = absurd (omega arith)
 den_cases (suc zero) h = none refl
 den_cases (suc (suc n)) h = some (omega arith)
-
-tail_of : (x : ℕ) (u v : Bytes) → x ∷ u ≡ x ∷ v → u ≡ v
-tail_of x u v e = cc
 
 nil_not : (x : ℕ) (u : Bytes) → [] ≡ x ∷ u → ⊥
 nil_not x u e = cc
@@ -112,29 +87,6 @@ den_same m n h k l j e = by (den_cases m h) (den_cases n k)
     by (some p) (some q) = decimal_one m n l j (tail_of 47 (decimal m) (decimal n) (sym (den_more m p) ∙ e ∙ den_more n q))
 
 -- ---- fractions
-make : (n d : ℤ) → pos 1 ≤ℤ d → gcd (unsigned_abs n) (unsigned_abs d) ≡ 1 → unsigned_abs n < 2 ^ 127 → Frac
-make n d p r s = record { num = n; den = d; positive = p; reduced = r; small = s }
-
-at_least_prop : (d : ℤ) → IsProp (pos 1 ≤ℤ d)
-at_least_prop (pos n) = hlevel (T_prop, So-prop)
-at_least_prop (negsuc n) = hlevel (T_prop, So-prop)
-
--- a fraction is its two parts
-pub same_parts : (f g : Frac) → f.num ≡ g.num → f.den ≡ g.den → f ≡ g
-unfolding make
-same_parts f g e h = go g.num g.den e h g.positive g.reduced g.small
-  where
-    at : (p : pos 1 ≤ℤ f.den) (r : gcd (unsigned_abs f.num) (unsigned_abs f.den) ≡ 1) (s : unsigned_abs f.num < 2 ^ 127) → f ≡ make f.num f.den p r s
-    at p r s =
-        ap (λ x. make f.num f.den x f.reduced f.small) (at_least_prop f.den f.positive p)
-        ∙ ap (λ x. make f.num f.den p x f.small) (ℕ_set (gcd (unsigned_abs f.num) (unsigned_abs f.den)) 1 f.reduced r)
-        ∙ ap (λ x. make f.num f.den p r x) (le_prop f.small s)
-
-    go : (n d : ℤ) → f.num ≡ n → f.den ≡ d → (p : pos 1 ≤ℤ d) (r : gcd (unsigned_abs n) (unsigned_abs d) ≡ 1) (s : unsigned_abs n < 2 ^ 127) → f ≡ make n d p r s
-    go n d e h =
-        subst (λ y. (p : pos 1 ≤ℤ y) (r : gcd (unsigned_abs n) (unsigned_abs y) ≡ 1) (s : unsigned_abs n < 2 ^ 127) → f ≡ make n y p r s) h
-        (subst (λ y. (p : pos 1 ≤ℤ f.den) (r : gcd (unsigned_abs y) (unsigned_abs f.den) ≡ 1) (s : unsigned_abs y < 2 ^ 127) → f ≡ make y f.den p r s) e at)
-
 size_positive : (d : ℤ) → pos 1 ≤ℤ d → 1 ≤ unsigned_abs d
 size_positive (pos n) h = omega (arith, ints)
 size_positive (negsuc n) h = absurd (omega (arith, ints))

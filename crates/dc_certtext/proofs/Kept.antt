@@ -15,19 +15,22 @@ use Rattle.dc_cert.specs.declared.certificate.Body.TheVariants as B
 use Rattle.dc_cert.specs.declared.certificate.Certificate.{Certificate}
 use Rattle.dc_cert.specs.Ranges.{IsShown, AreKeeps, AreAtoms, IsEdge, IsSide, HasCases, IsCertificate, IsBody}
 use Rattle.dc_cert.specs.Vectors.{IsVector}
-use Rattle.dc_certtext.specs.declared.stage.Claim.{Claim}
-use Rattle.dc_certtext.specs.declared.stage.Claim.TheVariants as C
+use Rattle.dc_cert.specs.declared.certificate.Claim.{Claim}
+use Rattle.dc_cert.specs.declared.certificate.Claim.TheVariants as C
 use Rattle.dc_certtext.specs.declared.stage.Head.{Head}
 use Rattle.dc_certtext.specs.declared.stage.Front.{Front}
 use Rattle.dc_certtext.specs.declared.stage.Found.{Found}
 use Rattle.dc_certtext.specs.declared.stage.Found.TheVariants as F
 use Rattle.dc_certtext.specs.declared.stage.Stage.{Stage}
 use Rattle.dc_certtext.specs.declared.stage.Stage.TheVariants.{Start, Whole, Version, Sizes, Cases, Heads, Opened, Locations, Entries, Edges, Between, Closed, Main, End, Done}
-use Rattle.dc_certtext.specs.Words.{Bytes}
+use Rattle.dc_lines.specs.Bytes.{Bytes}
+use Rattle.dc_lines.proofs.Cutting.{length-more}
 use Rattle.dc_certtext.specs.Text.{vector_line, shown_line, numbered, threshold_line, sizes_line, atom_line, entry_line, edge_line, groups, location_lines, entry_lines, edge_lines, side_lines, cases_lines, claim_lines, head_lines, body_lines, lines_of}
 use Rattle.dc_certtext.specs.Offers.{Any}
-use Rattle.dc_certtext.specs.Stages.{head, with_when, front, edge_of, side_of, sized, closed_by, certificate, vectors_next, offers}
-use Rattle.dc_certtext.proofs.SoFar.{claimed, sized_lines, headed, between, opened, closed, found_lines, claim_of, head_of, before_end, so_far, more_in, new_group, length-last, mapped-last}
+use Rattle.dc_certtext.specs.Stages.{head, with_when, front, edge_of, side_of, sized, closed_by, vectors_next, offers}
+use Rattle.dc_certtext.specs.Due.{certificate}
+use Rattle.dc_certtext.proofs.SoFar.{sized_lines, headed, between, opened, closed, found_lines, head_of, before_end, so_far, more_in, new_group, length-last, mapped-last}
+use Rattle.dc_cert.specs.Claims.{claim_of}
 use Rattle.dc_certtext.proofs.Valid.{IsClaim, IsHead, IsFull, IsNew, AreLocations, AreFamilies, AreEntries, AreAllEntries, IsFound, Lacking, Valid}
 
 -- the stage t is valid and has one line more than s
@@ -41,9 +44,6 @@ led s b t u e g = subst (Good s b) (sym e) g
 each-last : {A : Type 0} (P : A → Type 0) (xs : List A) (x : A) → AllByRecursion P xs → P x → AllByRecursion P (xs ++ x ∷ [])
 each-last P [] x h k = (k, tt)
 each-last P (y ∷ xs) x h k = (h.0, each-last P xs x h.1 k)
-
-pub length-more : {A : Type 0} (xs : List A) (x : A) → length (xs ++ x ∷ []) ≡ suc (length xs)
-length-more xs x = (let y = length-last xs x in omega arith)
 
 not_below : (m n : ℕ) → not (ltb m n) ≡ true → n ≤ m
 not_below m n e = by (ltb m n) refl e
@@ -63,9 +63,9 @@ sized_kept : (c : Claim) (v d k : ℕ) (b : Bytes) → IsClaim c → 1 ≤ v →
 sized_kept c zero d k b h l m x y z e = absurd (omega arith)
 sized_kept c (suc zero) d k b h l m x y z e = record {
   valid = record { claim = h; cases = inl (refl, refl); degree = x; some_products = y; few_products = z; when = tt; few = omega arith };
-  line = append-nil (sized_lines c 1 d k ++ []) ∙ append-nil (sized_lines c 1 d k) ∙ ap (λ w. (claimed c ++ numbered (codes "diffcost ") 1 ∷ []) ++ w ∷ []) e;
+  line = append-nil (sized_lines c 1 d k ++ []) ∙ append-nil (sized_lines c 1 d k) ∙ ap (λ w. (claim_lines c ++ numbered (codes "diffcost ") 1 ∷ []) ++ w ∷ []) e;
 }
-sized_kept c (suc (suc zero)) d k b h l m x y z e = record { valid = (h, x, y, z); line = ap (λ w. (claimed c ++ numbered (codes "diffcost ") 2 ∷ []) ++ w ∷ []) e }
+sized_kept c (suc (suc zero)) d k b h l m x y z e = record { valid = (h, x, y, z); line = ap (λ w. (claim_lines c ++ numbered (codes "diffcost ") 2 ∷ []) ++ w ∷ []) e }
 sized_kept c (suc (suc (suc v))) d k b h l m x y z e = absurd (omega arith)
 
 heads_kept : (h : Head) (b : Bytes) (t : Stage) → IsHead h → Any (offers (Heads h)) b t → Good (Heads h) b t
@@ -277,11 +277,6 @@ main_kept C.Vacuous (F.Three u l r) h n o b t e f i j k (inl (g, (s, v, p, q))) 
     (ap (λ w. vector_line (codes "unknown") u ∷ vector_line (codes "lambda") l ∷ vector_line (codes "ray unknown") r ∷ w ∷ []) p))
 main_kept C.Vacuous (F.Three u l r) h n o b t e f i j k (inr z) = absurd z
 
-claim_same : (b : Body) → claim_lines b ≡ claimed (claim_of b)
-claim_same (B.Threshold t u l d) = refl
-claim_same (B.Nothing d) = refl
-claim_same (B.Vacuous u l r s) = refl
-
 -- all lines of a certificate are those before the last, and the last
 pub lines_end : (c : Certificate) → lines_of c ≡ before_end c ++ codes "end" ∷ []
 lines_end c =
@@ -298,9 +293,8 @@ lines_end c =
 
     whole : head_lines c ≡ headed (head_of c)
     whole =
-        ap (λ l. l ++ (numbered (codes "diffcost ") c.version ∷ sizes_line c.degree c.products ∷ (cases_lines c.version (length c.when) ++ map (shown_line (codes "when")) c.when))) (claim_same c.body)
-        ∙ sym (append_assoc (claimed (claim_of c.body)) (numbered (codes "diffcost ") c.version ∷ []) (sizes_line c.degree c.products ∷ (cases_lines c.version (length c.when) ++ map (shown_line (codes "when")) c.when)))
-        ∙ sym (append_assoc (claimed (claim_of c.body) ++ numbered (codes "diffcost ") c.version ∷ []) (sizes_line c.degree c.products ∷ []) (cases_lines c.version (length c.when) ++ map (shown_line (codes "when")) c.when))
+        sym (append_assoc (claim_lines (claim_of c.body)) (numbered (codes "diffcost ") c.version ∷ []) (sizes_line c.degree c.products ∷ (cases_lines c.version (length c.when) ++ map (shown_line (codes "when")) c.when)))
+        ∙ sym (append_assoc (claim_lines (claim_of c.body) ++ numbered (codes "diffcost ") c.version ∷ []) (sizes_line c.degree c.products ∷ []) (cases_lines c.version (length c.when) ++ map (shown_line (codes "when")) c.when))
         ∙ sym (append_assoc (sized_lines (claim_of c.body) c.version c.degree c.products) (cases_lines c.version (length c.when)) (map (shown_line (codes "when")) c.when))
 
 -- ---- every stage
@@ -308,7 +302,7 @@ pub kept : (s : Stage) (b : Bytes) (t : Stage) → Valid s → Any (offers s) b 
 kept Start b t v a = start_kept b t a
 kept (Whole x) b t v (inl (g, (e, q))) = led (Whole x) b t (Version (C.Threshold x)) q (record { valid = v; line = ap (λ l. threshold_line x ∷ l ∷ []) e })
 kept (Whole x) b t v (inr h) = absurd h
-kept (Version c) b t v (inl (g, (n, r, e, q))) = led (Version c) b t (Sizes c n) q (record { valid = (v, r.0, r.1); line = ap (λ l. claimed c ++ l ∷ []) e })
+kept (Version c) b t v (inl (g, (n, r, e, q))) = led (Version c) b t (Sizes c n) q (record { valid = (v, r.0, r.1); line = ap (λ l. claim_lines c ++ l ∷ []) e })
 kept (Version c) b t v (inr h) = absurd h
 kept (Sizes c n) b t v (inl (g, (d, k, r, e, q))) = led (Sizes c n) b t (sized c n d k) q (sized_kept c n d k b v.0 v.1 v.2 r.0 r.1 r.2 e)
 kept (Sizes c n) b t v (inr h) = absurd h

@@ -1,6 +1,4 @@
-pub mod Lines
-pub mod Outcome
-pub mod Numerals
+pub mod Groups
 pub mod Fractions
 pub mod Taken
 pub mod Counted
@@ -11,9 +9,9 @@ pub mod Kept
 pub mod Paths
 pub mod Completes
 pub mod Feeds
+pub mod Machine
 pub mod Afterword
 pub mod Refusals
-pub mod TextRuns
 pub mod Sized
-pub mod Cutting
 pub mod DueVectors
+pub mod Decisions

@@ -15,23 +15,28 @@ use Rattle.dc_cert.specs.declared.certificate.Body.TheVariants as B
 use Rattle.dc_cert.specs.declared.certificate.Certificate.{Certificate}
 use Rattle.dc_cert.specs.Ranges.{IsShown, AreKeeps, AreAtoms, IsEdge, IsSide, HasCases, IsCertificate, IsBody}
 use Rattle.dc_cert.specs.Vectors.{IsVector}
-use Rattle.dc_certtext.specs.declared.stage.Claim.{Claim}
-use Rattle.dc_certtext.specs.declared.stage.Claim.TheVariants as C
+use Rattle.dc_cert.specs.declared.certificate.Claim.{Claim}
+use Rattle.dc_cert.specs.declared.certificate.Claim.TheVariants as C
 use Rattle.dc_certtext.specs.declared.stage.Front.{Front}
 use Rattle.dc_certtext.specs.declared.stage.Found.TheVariants as F
 use Rattle.dc_certtext.specs.declared.stage.Stage.{Stage}
 use Rattle.dc_certtext.specs.declared.stage.Stage.TheVariants.{Start, Whole, Version, Sizes, Cases, Heads, Opened, Locations, Entries, Edges, Between, Closed, Main, End, Done}
-use Rattle.dc_certtext.specs.Words.{Bytes}
+use Rattle.dc_lines.specs.Bytes.{Bytes}
+use Rattle.dc_lines.proofs.Readers as readers
 use Rattle.dc_certtext.specs.Text.{vector_line, shown_line, numbered, threshold_line, whole_line, sizes_line, atom_line, entry_line, edge_line, groups, location_lines, keep_lines, entry_lines, edge_lines, side_lines, cases_lines, claim_lines, head_lines, body_lines, lines_of}
 use Rattle.dc_certtext.specs.Offers.{Any}
-use Rattle.dc_certtext.specs.Stages.{head, front, edge_of, side_of, sized, closed_by, certificate, offers}
-use Rattle.dc_certtext.proofs.SoFar.{claim_of}
-use Rattle.dc_certtext.proofs.Kept.{length-more}
+use Rattle.dc_certtext.specs.Stages.{head, front, edge_of, side_of, sized, closed_by, offers}
+use Rattle.dc_certtext.specs.Due.{certificate}
+use Rattle.dc_cert.specs.Claims.{claim_of}
+use Rattle.dc_lines.proofs.Cutting.{length-more}
+
+-- a line that some offer of a stage takes leads to the next stage
+abbrev pub Step : Stage → Bytes → Stage → Type 0
+Step s b t = Any (offers s) b t
 
 -- line by line from one stage to another
 abbrev pub Runs : Stage → List Bytes → Stage → Type 0
-Runs s [] t = s ≡ t
-Runs s (b ∷ bs) t = (m : Stage) × Any (offers s) b m × Runs m bs t
+Runs s ls t = readers.Runs Step s ls t
 
 pub stop : (s : Stage) → Runs s [] s
 stop s = refl
@@ -40,8 +45,7 @@ pub more : (s : Stage) (b : Bytes) (m : Stage) (bs : List Bytes) (t : Stage) →
 more s b m bs t a r = (m, a, r)
 
 pub runs-append : (s : Stage) (xs : List Bytes) (m : Stage) (ys : List Bytes) (t : Stage) → Runs s xs m → Runs m ys t → Runs s (xs ++ ys) t
-runs-append s [] m ys t r k = subst (λ x. Runs x ys t) (sym r) k
-runs-append s (x ∷ xs) m ys t r k = (r.0, r.1, runs-append r.0 xs m ys t r.2 k)
+runs-append s xs m ys t r k = readers.runs-append Step s xs m ys t r k
 
 pub below-ltb : (m n : ℕ) → m < n → ltb m n ≡ true
 below-ltb m n h = by (ltb m n) refl
@@ -180,7 +184,7 @@ side_run f s h c = by s.families s.entry_keeps h.some h.few h.families h.one_eac
     by (ats ∷ fam) (ks ∷ ents) i j k m n = side_from f ats fam ks ents s.edges s.exit_line (omega arith) k.0 k.1 n.0 n.1 (omega arith) h.few_edges h.edges h.exit_line
 
 -- ---- from the claim to the cases
-claim_run : (b : Body) → IsBody b → Runs Start (claim_lines b) (Version (claim_of b))
+claim_run : (b : Body) → IsBody b → Runs Start (claim_lines (claim_of b)) (Version (claim_of b))
 claim_run (B.Threshold t u l d) h =
     more Start (threshold_line t) (Whole t) (whole_line t ∷ []) (Version (C.Threshold t)) (inl (refl, (t, h.0, refl, refl)))
     (more (Whole t) (whole_line t) (Version (C.Threshold t)) [] (Version (C.Threshold t)) (inl (refl, (refl, refl))) (stop (Version (C.Threshold t))))
@@ -213,7 +217,7 @@ head_run c h =
     let v = version_low c.version (length c.when) h.cases in
     let rest = cases_lines c.version (length c.when) ++ map (shown_line (codes "when")) c.when in
     let end = Heads (head a c.version c.degree c.products (length c.when) c.when) in
-    runs-append Start (claim_lines c.body) (Version a) (numbered (codes "diffcost ") c.version ∷ sizes_line c.degree c.products ∷ rest) end (claim_run c.body h.body)
+    runs-append Start (claim_lines (claim_of c.body)) (Version a) (numbered (codes "diffcost ") c.version ∷ sizes_line c.degree c.products ∷ rest) end (claim_run c.body h.body)
     (more (Version a) (numbered (codes "diffcost ") c.version) (Sizes a c.version) (sizes_line c.degree c.products ∷ rest) end (inl (refl, (c.version, (v.0, v.1, v.2), refl, refl)))
     (more (Sizes a c.version) (sizes_line c.degree c.products) (sized a c.version c.degree c.products) rest end (inl (refl, (c.degree, c.products, (h.degree, h.some_products, h.few_products), refl, refl)))
     (runs-append (sized a c.version c.degree c.products) (cases_lines c.version (length c.when)) (Heads (head a c.version c.degree c.products (length c.when) [])) (map (shown_line (codes "when")) c.when) end

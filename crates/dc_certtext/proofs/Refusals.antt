@@ -14,7 +14,8 @@ use Rattle.dc_cert.specs.declared.certificate.EdgeCert.{EdgeCert}
 use Rattle.dc_certtext.specs.declared.stage.Front.{Front}
 use Rattle.dc_certtext.specs.declared.stage.Stage.{Stage}
 use Rattle.dc_certtext.specs.declared.stage.Stage.TheVariants.{Edges}
-use Rattle.dc_certtext.specs.Words.{Bytes, frac_text, vector_text, atom_text}
+use Rattle.dc_lines.specs.Bytes.{Bytes}
+use Rattle.dc_certtext.specs.Words.{frac_text, vector_text, atom_text}
 use Rattle.dc_certtext.specs.Text.{numbered, shown_text}
 use Rattle.dc_certtext.specs.Offers.{Then, plain, vector, shown, atom, fraction, number, sizes, Offer, Takes}
 use Rattle.dc_certtext.proofs.Distinct.{Apart, other_taken}

@@ -3,13 +3,12 @@ use Rattle.std.specs.Prelude.{◌≡◌, ◌⊎◌, ℕ, ◌≤◌, ◌<◌, ◌
 use Rattle.std.proofs.Common.{sym, ◌∙◌, ap, ap₂, arith, inl, inr}
 use Rattle.std.specs.Fmt.{decimal}
 use Rattle.dc_certtext.specs.declared.stage.Stage.{Stage}
-use Rattle.dc_certtext.specs.Words.{Bytes}
-use Rattle.dc_certtext.specs.Cuts.{until, onward}
-use Rattle.dc_certtext.proofs.Cutting.{until-append, onward-append, cut_whole}
-use Rattle.dc_certtext.proofs.Numerals.{digits-lack, decimal_digits, decimal_one}
+use Rattle.dc_lines.specs.Bytes.{Bytes}
+use Rattle.dc_lines.specs.Cuts.{until, onward}
+use Rattle.dc_lines.proofs.Cutting.{until-append, onward-append, cut_whole, cancel}
+use Rattle.dc_lines.proofs.Numerals.{digits-lack, decimal_digits, decimal_one}
 use Rattle.dc_certtext.specs.Text.{sizes_line}
 use Rattle.dc_certtext.specs.Offers.{number, offer}
-use Rattle.dc_certtext.proofs.Distinct.{cancel}
 use Rattle.dc_certtext.specs.Stages.{None_taken}
 
 sizes_cut : (l rest front back : Bytes) (d n : ℕ) → l ≡ codes "degree " ++ rest → front ≡ until 32 rest → back ≡ onward 32 rest → d ≤ 3 → sizes_line d n ≡ l → (decimal d ≡ front) × (codes " products " ++ decimal n ≡ back)

@@ -6,28 +6,24 @@ use Rattle.dc_cert.specs.declared.certificate.SideCert.{SideCert}
 use Rattle.dc_cert.specs.declared.certificate.Body.{Body}
 use Rattle.dc_cert.specs.declared.certificate.Body.TheVariants as B
 use Rattle.dc_cert.specs.declared.certificate.Certificate.{Certificate}
-use Rattle.dc_certtext.specs.declared.stage.Claim.{Claim}
-use Rattle.dc_certtext.specs.declared.stage.Claim.TheVariants as C
+use Rattle.dc_cert.specs.declared.certificate.Claim.{Claim}
+use Rattle.dc_cert.specs.declared.certificate.Claim.TheVariants as C
 use Rattle.dc_certtext.specs.declared.stage.Head.{Head}
 use Rattle.dc_certtext.specs.declared.stage.Found.{Found}
 use Rattle.dc_certtext.specs.declared.stage.Found.TheVariants as F
 use Rattle.dc_certtext.specs.declared.stage.Stage.{Stage}
 use Rattle.dc_certtext.specs.declared.stage.Stage.TheVariants.{Start, Whole, Version, Sizes, Cases, Heads, Opened, Locations, Entries, Edges, Between, Closed, Main, End, Done}
-use Rattle.dc_certtext.specs.Words.{Bytes}
-use Rattle.dc_certtext.specs.Text.{vector_line, shown_line, numbered, threshold_line, whole_line, sizes_line, groups, location_lines, entry_lines, edge_lines, side_lines, cases_lines, body_lines, lines_of}
+use Rattle.dc_lines.specs.Bytes.{Bytes}
+use Rattle.dc_cert.specs.Claims.{claim_of}
+use Rattle.dc_certtext.specs.Text.{claim_lines, vector_line, shown_line, numbered, threshold_line, whole_line, sizes_line, groups, location_lines, entry_lines, edge_lines, side_lines, cases_lines, body_lines, lines_of}
 use Rattle.dc_certtext.specs.Stages.{head, edge_of}
 
 -- ---- lists with something behind them
 with_last : {A : Type 0} → List A → A → List A
 with_last xs x = xs ++ x ∷ []
 
-abbrev pub claimed : Claim → List Bytes
-claimed (C.Threshold t) = threshold_line t ∷ whole_line t ∷ []
-claimed C.Nothing = codes "none" ∷ []
-claimed C.Vacuous = codes "vacuous" ∷ []
-
 abbrev pub sized_lines : Claim → ℕ → ℕ → ℕ → List Bytes
-sized_lines c v d k = (claimed c ++ numbered (codes "diffcost ") v ∷ []) ++ sizes_line d k ∷ []
+sized_lines c v d k = (claim_lines c ++ numbered (codes "diffcost ") v ∷ []) ++ sizes_line d k ∷ []
 
 abbrev pub headed : Head → List Bytes
 headed h = (sized_lines h.claim h.version h.degree h.products ++ cases_lines h.version h.cases) ++ map (shown_line (codes "when")) h.when
@@ -49,11 +45,6 @@ found_lines (F.Two u l) = vector_line (codes "unknown") u ∷ vector_line (codes
 found_lines (F.Three u l r) = vector_line (codes "unknown") u ∷ vector_line (codes "lambda") l ∷ vector_line (codes "ray unknown") r ∷ []
 
 -- a certificate's head
-abbrev pub claim_of : Body → Claim
-claim_of (B.Threshold t u l d) = C.Threshold t
-claim_of (B.Nothing d) = C.Nothing
-claim_of (B.Vacuous u l r s) = C.Vacuous
-
 abbrev pub head_of : Certificate → Head
 head_of c = head (claim_of c.body) c.version c.degree c.products (length c.when) c.when
 
@@ -64,8 +55,8 @@ before_end c = (closed (head_of c) c.new_side c.old_side ++ codes "main" ∷ [])
 abbrev pub so_far : Stage → List Bytes
 so_far Start = []
 so_far (Whole t) = threshold_line t ∷ []
-so_far (Version c) = claimed c
-so_far (Sizes c v) = claimed c ++ numbered (codes "diffcost ") v ∷ []
+so_far (Version c) = claim_lines c
+so_far (Sizes c v) = claim_lines c ++ numbered (codes "diffcost ") v ∷ []
 so_far (Cases c d k) = sized_lines c 2 d k
 so_far (Heads h) = headed h
 so_far (Opened f) = opened f.head f.new

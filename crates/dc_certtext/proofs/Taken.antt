@@ -1,66 +1,23 @@
 -- Lists with a space in front of each, as they are read from the left.
 use Rattle.std.specs.Prelude.{◌≡◌, ℕ, suc, ◌+◌, ◌≤◌, ◌<◌, ◌^◌, eqb, true, false, List, [], ◌∷◌, ◌++◌, length, ℤ, unsigned_abs, refl}
 use Rattle.std.proofs.Common.{sym, ◌∙◌, ap, ap₂, subst, arith, append_assoc, inl}
-use Rattle.std.proofs.lemmas.Bool.{eqb-true, eqb-false}
+use Rattle.std.proofs.lemmas.Bool.{eqb-true, eqb-false, ne_eqb}
 use Rattle.std.proofs.lemmas.List.{append-nil}
 use Rattle.std.specs.Fmt.{signed_decimal}
 use Rattle.dc_cert.specs.declared.sparse.Item.{Item}
 use Rattle.dc_cert.specs.declared.sparse.Sparse.{Sparse}
 use Rattle.dc_cert.specs.Vectors.{IsItem, AreItems, IsVector}
-use Rattle.dc_cert.specs.VectorLaws.{AreWithin, within-append, within_items}
-use Rattle.dc_certtext.specs.Words.{Bytes, item_text, spaced, vector_text}
-use Rattle.dc_certtext.specs.Cuts.{Starts, until, onward}
-use Rattle.dc_certtext.proofs.Cutting.{differ-eqb, until-append, cut_whole, onward-starts, same_cut, spaced-starts, spaced-append}
-use Rattle.dc_certtext.proofs.Numerals.{whole_lacks, whole_one}
+use Rattle.dc_cert.proofs.VectorLaws.{AreWithin, within-append, within_items}
+use Rattle.dc_lines.specs.Bytes.{Bytes, spaced}
+use Rattle.dc_certtext.specs.Words.{item_text, vector_text}
+use Rattle.dc_lines.specs.Cuts.{Starts, until, onward}
+use Rattle.dc_lines.proofs.Cutting.{tail_of, nil_not, until-append, cut_whole, onward-starts, same_cut, spaced-starts, spaced-append}
+use Rattle.dc_lines.proofs.Numerals.{whole_lacks, whole_one}
 use Rattle.dc_certtext.proofs.Fractions.{item-lacks, item_one}
 
-tail_of : (x : ℕ) (u v : Bytes) → x ∷ u ≡ x ∷ v → u ≡ v
-tail_of x u v e = cc
-
-nil_not : (x : ℕ) (u v : Bytes) → x ∷ u ≡ v → v ≡ [] → ⊥
-nil_not x u v e f = cc
-
 -- ---- the first item
-pub refuse_space : (f : Bytes) (t r : Bytes) → ((v : Bytes) → ¬ (t ≡ 32 ∷ v)) → ¬ (32 ∷ (f ++ r) ≡ t)
-refuse_space f t r g e = g (f ++ r) (sym e)
-
 pub refuse_item : (t v w : Bytes) → t ≡ 32 ∷ v → w ≡ until 32 v → ((i : Item) → IsItem i → ¬ (item_text i ≡ w)) → (i : Item) (r : Bytes) → IsItem i → Starts 32 r → ¬ (32 ∷ (item_text i ++ r) ≡ t)
 refuse_item t v w a b g i r h s e = g i h (sym (until-append 32 (item_text i) r (item-lacks i h) s) ∙ ap (until 32) (tail_of 32 (item_text i ++ r) v (e ∙ a)) ∙ sym b)
-
-pub piece_is : (f t v w r : Bytes) → t ≡ 32 ∷ v → w ≡ until 32 v → r ≡ onward 32 v → f ≡ w → 32 ∷ (f ++ r) ≡ t
-piece_is f t v w r a b c d = ap (λ l. 32 ∷ l) (ap₂ ◌++◌ (d ∙ b) c ∙ cut_whole 32 v) ∙ sym a
-
-pub piece-starts : (v r : Bytes) → r ≡ onward 32 v → Starts 32 r
-piece-starts v r e = subst (Starts 32) (sym e) (onward-starts 32 v)
-
-low_wide : (n : ℕ) → n ≤ 2147483648 → n < 2 ^ 127
-low_wide n h = omega arith
-
-pub refuse_number : (t v w : Bytes) → t ≡ 32 ∷ v → w ≡ until 32 v → ((z : ℤ) → unsigned_abs z < 2 ^ 127 → ¬ (signed_decimal z ≡ w)) → (z : ℤ) (r : Bytes) → unsigned_abs z ≤ 2147483648 → Starts 32 r
-    → ¬ (32 ∷ (signed_decimal z ++ r) ≡ t)
-refuse_number t v w a b g z r h s e =
-    let l = low_wide (unsigned_abs z) h in
-    g z l (sym (until-append 32 (signed_decimal z) r (whole_lacks 32 z (inl (inl (omega arith))) l) s) ∙ ap (until 32) (tail_of 32 (signed_decimal z ++ r) v (e ∙ a)) ∙ sym b)
-
-pub refuse_wide : (t v w : Bytes) (y : ℤ) → t ≡ 32 ∷ v → w ≡ until 32 v → unsigned_abs y < 2 ^ 127 → signed_decimal y ≡ w → 2147483648 < unsigned_abs y → (z : ℤ) (r : Bytes) → unsigned_abs z ≤ 2147483648 → Starts 32 r
-    → ¬ (32 ∷ (signed_decimal z ++ r) ≡ t)
-refuse_wide t v w y a b m d k z r h s e =
-    let l = low_wide (unsigned_abs z) h in
-    let q = whole_one z y l m (sym (until-append 32 (signed_decimal z) r (whole_lacks 32 z (inl (inl (omega arith))) l) s) ∙ ap (until 32) (tail_of 32 (signed_decimal z ++ r) v (e ∙ a)) ∙ sym b ∙ sym d) in
-    let p = ap unsigned_abs q in
-    omega arith
-
-pub number_end : (t v w r : Bytes) (y z : ℤ) (n : ℕ) → z ≡ y → n ≡ unsigned_abs y → n ≤ 2147483648 → t ≡ 32 ∷ v → w ≡ until 32 v → r ≡ onward 32 v → signed_decimal y ≡ w
-    → (unsigned_abs z ≤ 2147483648) × Starts 32 r × (32 ∷ (signed_decimal z ++ r) ≡ t)
-number_end t v w r y z n e f h a b c d = ((let q = ap unsigned_abs e in omega arith), piece-starts v r c, piece_is (signed_decimal z) t v w r a b c (ap signed_decimal e ∙ d))
-
--- ---- whether a text is empty
-pub empty_is : (xs : Bytes) → true ≡ eqb (length xs) 0 → xs ≡ []
-empty_is [] e = refl
-empty_is (x ∷ xs) e = absurd (eqb-false (suc (length xs)) 0 (differ-eqb (suc (length xs)) 0 (λ q. omega arith)) (eqb-true (suc (length xs)) 0 (sym e)))
-
-pub some_is : (xs : Bytes) → false ≡ eqb (length xs) 0 → ¬ (xs ≡ [])
-some_is xs e q = eqb-false (length xs) 0 (sym e) (ap length q)
 
 -- ---- a vector under way: what is read, what is left, and the least index that may follow
 pub record Rest (text : Bytes) (is : List Item) (rest : Bytes) (low : ℕ) (js : List Item) : Type 0 where

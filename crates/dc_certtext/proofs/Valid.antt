@@ -8,8 +8,8 @@ use Rattle.dc_cert.specs.declared.certificate.EdgeCert.{EdgeCert}
 use Rattle.dc_cert.specs.declared.certificate.SideCert.{SideCert}
 use Rattle.dc_cert.specs.Vectors.{IsVector}
 use Rattle.dc_cert.specs.Ranges.{IsShown, AreKeeps, AreAtoms, IsEdge, IsSide, HasCases, IsCertificate}
-use Rattle.dc_certtext.specs.declared.stage.Claim.{Claim}
-use Rattle.dc_certtext.specs.declared.stage.Claim.TheVariants as C
+use Rattle.dc_cert.specs.declared.certificate.Claim.{Claim}
+use Rattle.dc_cert.specs.declared.certificate.Claim.TheVariants as C
 use Rattle.dc_certtext.specs.declared.stage.Head.{Head}
 use Rattle.dc_certtext.specs.declared.stage.Found.{Found}
 use Rattle.dc_certtext.specs.declared.stage.Found.TheVariants as F

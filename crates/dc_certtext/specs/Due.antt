@@ -3,15 +3,19 @@ use Rattle.std.specs.Prelude.{codes, Option, Some, None}
 use Rattle.dc_cert.specs.declared.sparse.Sparse.{Sparse}
 use Rattle.dc_cert.specs.declared.certificate.SideCert.{SideCert}
 use Rattle.dc_cert.specs.declared.certificate.Body.TheVariants as B
-use Rattle.dc_certtext.specs.declared.stage.Claim.{Claim}
-use Rattle.dc_certtext.specs.declared.stage.Claim.TheVariants as C
+use Rattle.dc_cert.specs.declared.certificate.Claim.{Claim}
+use Rattle.dc_cert.specs.declared.certificate.Claim.TheVariants as C
 use Rattle.dc_certtext.specs.declared.stage.Head.{Head}
 use Rattle.dc_certtext.specs.declared.stage.Found.{Found}
 use Rattle.dc_certtext.specs.declared.stage.Found.TheVariants as F
 use Rattle.dc_certtext.specs.declared.stage.Stage.{Stage}
 use Rattle.dc_certtext.specs.declared.stage.Stage.TheVariants.{Main, End}
-use Rattle.dc_certtext.specs.Words.{Bytes}
-use Rattle.dc_certtext.specs.Stages.{certificate}
+use Rattle.dc_lines.specs.Bytes.{Bytes}
+use Rattle.dc_cert.specs.declared.certificate.Body.{Body}
+use Rattle.dc_cert.specs.declared.certificate.Certificate.{Certificate}
+
+abbrev pub certificate : Head → SideCert → SideCert → Body → Certificate
+certificate h n o b = record { version = h.version; body = b; degree = h.degree; products = h.products; when = h.when; new_side = n; old_side = o }
 
 abbrev pub due : Claim → Found → Option Bytes
 due (C.Threshold t) F.None = Some (codes "unknown")

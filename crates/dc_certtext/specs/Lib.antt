@@ -1,11 +1,8 @@
 pub mod Words
-pub mod Cuts
 pub mod Text
 pub mod Limits
 pub mod WriteFaults
-pub mod Begins
 pub mod Offers
-pub mod Stages
 pub mod Due
+pub mod Stages
 pub mod ReadFaults
-pub mod Outcomes

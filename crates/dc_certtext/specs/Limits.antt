@@ -2,7 +2,7 @@
 use Rattle.std.specs.Prelude.{◌≡◌, ℕ}
 use Rattle.dc_cert.specs.declared.certificate.Certificate.{Certificate}
 use Rattle.dc_cert.specs.Ranges.{IsCertificate}
-use Rattle.dc_certtext.specs.Words.{Bytes}
+use Rattle.dc_lines.specs.Bytes.{Bytes}
 use Rattle.dc_certtext.specs.Text.{text_of}
 
 -- the greatest number of bytes

@@ -10,7 +10,8 @@ use Rattle.dc_cert.specs.declared.certificate.Liveness.{Liveness}
 use Rattle.dc_cert.specs.Vectors.{IsVector}
 use Rattle.dc_cert.specs.Ranges.{IsShown}
 use Rattle.dc_certtext.specs.declared.stage.Stage.{Stage}
-use Rattle.dc_certtext.specs.Words.{Bytes, frac_text, vector_text, atom_text}
+use Rattle.dc_lines.specs.Bytes.{Bytes}
+use Rattle.dc_certtext.specs.Words.{frac_text, vector_text, atom_text}
 use Rattle.dc_certtext.specs.Text.{shown_text}
 
 -- what stands behind the word, and what is read then

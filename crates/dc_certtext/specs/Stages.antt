@@ -8,16 +8,17 @@ use Rattle.dc_cert.specs.declared.certificate.SideCert.{SideCert}
 use Rattle.dc_cert.specs.declared.certificate.Body.{Body}
 use Rattle.dc_cert.specs.declared.certificate.Body.TheVariants as B
 use Rattle.dc_cert.specs.declared.certificate.Certificate.{Certificate}
-use Rattle.dc_certtext.specs.declared.stage.Claim.{Claim}
-use Rattle.dc_certtext.specs.declared.stage.Claim.TheVariants as C
+use Rattle.dc_cert.specs.declared.certificate.Claim.{Claim}
+use Rattle.dc_cert.specs.declared.certificate.Claim.TheVariants as C
 use Rattle.dc_certtext.specs.declared.stage.Head.{Head}
 use Rattle.dc_certtext.specs.declared.stage.Front.{Front}
 use Rattle.dc_certtext.specs.declared.stage.Found.{Found}
 use Rattle.dc_certtext.specs.declared.stage.Found.TheVariants as F
 use Rattle.dc_certtext.specs.declared.stage.Stage.{Stage}
 use Rattle.dc_certtext.specs.declared.stage.Stage.TheVariants.{Start, Whole, Version, Sizes, Cases, Heads, Opened, Locations, Entries, Edges, Between, Closed, Main, End, Done}
-use Rattle.dc_certtext.specs.Words.{Bytes}
+use Rattle.dc_lines.specs.Bytes.{Bytes}
 use Rattle.dc_certtext.specs.Text.{whole_line, numbered, entry_line}
+use Rattle.dc_certtext.specs.Due.{due, with_vector}
 use Rattle.dc_certtext.specs.Offers.{plain, vector, shown, atom, fraction, number, sizes, Offer, offer, Any}
 
 abbrev pub head : Claim → ℕ → ℕ → ℕ → ℕ → List Liveness → Head
@@ -43,23 +44,13 @@ abbrev pub closed_by : Head → Option SideCert → SideCert → Stage
 closed_by h None s = Between h s
 closed_by h (Some n) s = Closed h n s
 
-abbrev pub certificate : Head → SideCert → SideCert → Body → Certificate
-certificate h n o b = record { version = h.version; body = b; degree = h.degree; products = h.products; when = h.when; new_side = n; old_side = o }
+-- the vector that is due, nothing behind the last one
+abbrev pub vector_offers : Option Bytes → (Sparse → Stage) → List Offer
+vector_offers None f = []
+vector_offers (Some word) f = offer true word (vector f) ∷ []
 
--- the vectors of the main problem, one after another
 abbrev pub vectors_next : Head → SideCert → SideCert → Claim → Found → List Offer
-vectors_next h n o (C.Threshold t) F.None = offer true (codes "unknown") (vector (λ s. Main h n o (F.One s))) ∷ []
-vectors_next h n o (C.Threshold t) (F.One u) = offer true (codes "lambda") (vector (λ s. Main h n o (F.Two u s))) ∷ []
-vectors_next h n o (C.Threshold t) (F.Two u l) = offer true (codes "dual") (vector (λ s. End (certificate h n o (B.Threshold t u l s)))) ∷ []
-vectors_next h n o (C.Threshold t) (F.Three u l r) = []
-vectors_next h n o C.Nothing F.None = offer true (codes "dual") (vector (λ s. End (certificate h n o (B.Nothing s)))) ∷ []
-vectors_next h n o C.Nothing (F.One u) = []
-vectors_next h n o C.Nothing (F.Two u l) = []
-vectors_next h n o C.Nothing (F.Three u l r) = []
-vectors_next h n o C.Vacuous F.None = offer true (codes "unknown") (vector (λ s. Main h n o (F.One s))) ∷ []
-vectors_next h n o C.Vacuous (F.One u) = offer true (codes "lambda") (vector (λ s. Main h n o (F.Two u s))) ∷ []
-vectors_next h n o C.Vacuous (F.Two u l) = offer true (codes "ray unknown") (vector (λ s. Main h n o (F.Three u l s))) ∷ []
-vectors_next h n o C.Vacuous (F.Three u l r) = offer true (codes "ray lambda") (vector (λ s. End (certificate h n o (B.Vacuous u l r s)))) ∷ []
+vectors_next h n o c found = vector_offers (due c found) (with_vector h n o c found)
 
 abbrev pub offers : Stage → List Offer
 offers Start = offer true (codes "threshold ") (fraction (λ t. Whole t)) ∷ offer true (codes "none") (plain (Version C.Nothing)) ∷ offer true (codes "vacuous") (plain (Version C.Vacuous)) ∷ []

@@ -12,8 +12,12 @@ use Rattle.dc_cert.specs.declared.certificate.EdgeCert.{EdgeCert}
 use Rattle.dc_cert.specs.declared.certificate.SideCert.{SideCert}
 use Rattle.dc_cert.specs.declared.certificate.Body.{Body}
 use Rattle.dc_cert.specs.declared.certificate.Body.TheVariants.{Threshold, Nothing, Vacuous}
+use Rattle.dc_cert.specs.declared.certificate.Claim.{Claim}
+use Rattle.dc_cert.specs.declared.certificate.Claim.TheVariants as C
 use Rattle.dc_cert.specs.declared.certificate.Certificate.{Certificate}
-use Rattle.dc_certtext.specs.Words.{Bytes, frac_text, vector_text, atom_text}
+use Rattle.dc_cert.specs.Claims.{claim_of}
+use Rattle.dc_lines.specs.Bytes.{Bytes, ended}
+use Rattle.dc_certtext.specs.Words.{frac_text, vector_text, atom_text}
 
 -- ---- single lines
 abbrev pub vector_line : Bytes → Sparse → Bytes
@@ -70,10 +74,10 @@ side_lines version s =
     groups location_lines 0 s.families ++ (groups (entry_lines version) 0 s.entry_keeps ++ (groups edge_lines 0 s.edges ++ (shown_line (codes "exit") s.exit_line ∷ [])))
 
 -- ---- the whole
-abbrev pub claim_lines : Body → List Bytes
-claim_lines (Threshold t unknown lambda dual) = threshold_line t ∷ whole_line t ∷ []
-claim_lines (Nothing dual) = codes "none" ∷ []
-claim_lines (Vacuous unknown lambda ray_unknown ray_lambda) = codes "vacuous" ∷ []
+abbrev pub claim_lines : Claim → List Bytes
+claim_lines (C.Threshold t) = threshold_line t ∷ whole_line t ∷ []
+claim_lines C.Nothing = codes "none" ∷ []
+claim_lines C.Vacuous = codes "vacuous" ∷ []
 
 -- version 1 has no line with the number of cases
 abbrev pub cases_lines : ℕ → ℕ → List Bytes
@@ -88,16 +92,11 @@ body_lines (Vacuous unknown lambda ray_unknown ray_lambda) =
 -- from the claim to the cases of the condition
 abbrev pub head_lines : Certificate → List Bytes
 head_lines c =
-    claim_lines c.body ++ (numbered (codes "diffcost ") c.version ∷ sizes_line c.degree c.products ∷ (cases_lines c.version (length c.when) ++ map (shown_line (codes "when")) c.when))
+    claim_lines (claim_of c.body) ++ (numbered (codes "diffcost ") c.version ∷ sizes_line c.degree c.products ∷ (cases_lines c.version (length c.when) ++ map (shown_line (codes "when")) c.when))
 
 abbrev pub lines_of : Certificate → List Bytes
 lines_of c =
     head_lines c ++ (codes "side new" ∷ (side_lines c.version c.new_side ++ (codes "side old" ∷ (side_lines c.version c.old_side ++ (codes "main" ∷ (body_lines c.body ++ (codes "end" ∷ [])))))))
-
--- each line ends with a line feed
-abbrev pub ended : List Bytes → Bytes
-ended [] = []
-ended (l ∷ ls) = l ++ 10 ∷ ended ls
 
 abbrev pub text_of : Certificate → Bytes
 text_of c = ended (lines_of c)

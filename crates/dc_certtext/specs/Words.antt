@@ -1,13 +1,11 @@
 -- How numbers, fractions and vectors are spelt.
 use Rattle.std.specs.Prelude.{ℕ, eqb, cond, List, [], ◌∷◌, ◌++◌, unsigned_abs}
 use Rattle.std.specs.Fmt.{decimal, signed_decimal}
+use Rattle.dc_lines.specs.Bytes.{Bytes, spaced}
 use Rattle.dc_frac.specs.declared.Frac.{Frac}
 use Rattle.dc_affine.specs.declared.atom.Atom.{Atom}
 use Rattle.dc_cert.specs.declared.sparse.Item.{Item}
 use Rattle.dc_cert.specs.declared.sparse.Sparse.{Sparse}
-
-abbrev pub Bytes : Type 0
-Bytes = List ℕ
 
 -- `/` and the denominator, nothing where it is 1
 abbrev pub den_text : ℕ → Bytes
@@ -20,11 +18,6 @@ frac_text f = signed_decimal f.num ++ den_text (unsigned_abs f.den)
 -- `I:F`
 abbrev pub item_text : Item → Bytes
 item_text i = decimal i.index ++ 58 ∷ frac_text i.value
-
--- each with a space in front
-abbrev pub spaced : {A : Type 0} → (A → Bytes) → List A → Bytes
-spaced f [] = []
-spaced f (x ∷ xs) = 32 ∷ (f x ++ spaced f xs)
 
 abbrev pub vector_text : Sparse → Bytes
 vector_text s = spaced item_text s.items

@@ -13,18 +13,12 @@ ghost use Rattle.dc_certtext.specs.Words.{atom_text, frac_text, vector_text};
 ghost use Rattle.dc_certtext.specs.Text.{shown_text};
 
 use crate::items::{read_atom, read_items};
-use crate::read::{fraction, natural, strip};
+use crate::read::fraction;
 use dc_affine::Atom;
 use dc_cert::{Liveness, Sparse};
 use dc_frac::Frac;
+use dc_lines::{natural, strip};
 use std::alloc::{AllocError, Global};
-
-// Whether a line is this text.
-pub(crate) fn is(line: &[u8], text: &[u8]) -> bool
-    ensures { MatchBool result (text.now ≡ line.now) (text.now ≢ line.now) }
-{
-    text == line
-}
 
 // The vector behind a word.
 #[tactic(auto, using(crate::proofs::Afterword::words))]

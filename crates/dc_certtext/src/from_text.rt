@@ -2,16 +2,16 @@
 ghost use Rattle.std.specs.Prelude.{ℕ, List, [], ◌∷◌, ◌++◌, ◌≡◌, ◌≤◌, IfOk, IfErr, MatchOption, length};
 ghost use Rattle.dc_cert.specs.declared.certificate.Certificate.{Certificate as Whole};
 ghost use Rattle.dc_cert.specs.Ranges.{IsCertificate};
-ghost use Rattle.dc_certtext.specs.Limits.{limit};
+ghost use Rattle.dc_certtext.specs.Limits.{limit, HasText};
 ghost use Rattle.dc_certtext.specs.Text.{text_of};
 ghost use Rattle.dc_certtext.specs.ReadFaults.{IsReadFault};
-ghost use Rattle.dc_certtext.specs.Cuts.{Lacks};
-ghost use Rattle.dc_certtext.specs.Begins.{IsReading};
+ghost use Rattle.dc_lines.specs.Cuts.{Lacks};
+ghost use Rattle.dc_lines.specs.Texts.{IsReading};
 
-use crate::read::{cut, strip};
 use crate::stage::Stage;
 use crate::write::LIMIT;
 use dc_cert::Certificate;
+use dc_lines::first_line;
 use std::alloc::{AllocError, Global};
 use thiserror::Error;
 
@@ -45,17 +45,6 @@ struct Reading {
     whole: Option<Certificate>,
 }
 
-// The first line of a text, and what stands behind its line feed.
-fn first_line(text: &[u8]) -> Option<(&[u8], &[u8])>
-    ensures { MatchOption result (Lacks 10 text.now) (λ p. Lacks 10 p.0.now × (p.0.now ++ 10 ∷ p.1.now ≡ text.now)) }
-{
-    let (front, back) = cut(text, b'\n');
-    match strip(back, b"\n") {
-        Some(rest) => Some((front, rest)),
-        None => None,
-    }
-}
-
 // The certificate, where its last line is read and nothing stands behind it.
 fn finished(stage: Stage, rest: &[u8]) -> Option<Certificate>
     ensures { MatchOption result ((c : Whole) → stage ≡ Stage.Done c → ¬ (rest.now ≡ [])) (λ c. (stage ≡ Stage.Done c) × (rest.now ≡ [])) }
@@ -70,10 +59,10 @@ fn finished(stage: Stage, rest: &[u8]) -> Option<Certificate>
 }
 
 // The reading of a text line by line, up to the first line that no stage takes.
-#[tactic(auto, using(crate::proofs::TextRuns::reaching))]
+#[tactic(auto, using(crate::proofs::Machine::reaching))]
 fn read_lines(alloc: Global, text: &[u8]) -> Result<Reading, AllocError>
     requires { length text.now ≤ limit }
-    ensures { IfOk result (λ r. IsReading text.now r.line r.whole) }
+    ensures { IfOk result (λ r. IsReading HasText text.now r.line r.whole) }
 {
     let mut stage = Stage::Start;
     let mut rest = text;

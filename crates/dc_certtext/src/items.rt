@@ -6,18 +6,19 @@ ghost use Rattle.dc_affine.specs.Atoms.{IsAtom};
 ghost use Rattle.dc_cert.specs.declared.sparse.Sparse.{Sparse as Vector};
 ghost use Rattle.dc_cert.specs.declared.sparse.Item.{Item as Entry};
 ghost use Rattle.dc_cert.specs.Vectors.{IsItem, IsVector};
-ghost use Rattle.dc_certtext.specs.Cuts.{Starts};
+ghost use Rattle.dc_lines.specs.Cuts.{Starts};
 ghost use Rattle.dc_certtext.specs.Words.{atom_text, item_text, vector_text};
 
 use crate::put::put_vector;
-use crate::read::{cut, item, strip, whole};
+use crate::read::item;
 use dc_affine::Atom;
 use dc_cert::{Item, Sparse};
+use dc_lines::{cut, next_field, strip};
 use sqlite_items::Items;
 use std::alloc::{AllocError, Global};
 
 // The greatest sizes of the numbers of an atom, and how many stand behind the constant.
-const MOST_CONSTANT: u128 = 2147483648;
+const MOST_CONSTANT: u64 = 2147483648;
 
 const MOST_COEFFICIENT: u64 = 2147483647;
 
@@ -77,25 +78,13 @@ fn next_number(text: &[u8]) -> Option<(i64, &[u8])>
     ensures { MatchOption result ((z : ℤ) (r : List ℕ) → unsigned_abs z ≤ 2147483648 → Starts 32 r → ¬ (32 ∷ (signed_decimal z ++ r) ≡ text.now))
         (λ p. (unsigned_abs p.0 ≤ 2147483648) × Starts 32 p.1.now × (32 ∷ (signed_decimal p.0 ++ p.1.now) ≡ text.now)) }
 {
-    let Some(inside) = strip(text, b" ") else {
-        return None;
-    };
-    let (word, more) = cut(inside, b' ');
-    let Some(next) = whole(word) else {
+    let Some((next, more)) = next_field(text) else {
         return None;
     };
     if next.unsigned_abs() > MOST_CONSTANT {
         return None;
     }
-    Some((narrow(&next), more))
-}
-
-// The same number.
-fn narrow(z: &i128) -> i64
-    requires { unsigned_abs z.now ≤ 2147483648 }
-    ensures { result ≡ z.now }
-{
-    *z as i64
+    Some((next, more))
 }
 
 /// The atom whose numbers stand there, each with a space in front, with `None` exactly where no atom of at

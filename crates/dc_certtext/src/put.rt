@@ -6,25 +6,8 @@ ghost use Rattle.dc_certtext.specs.Words.{atom_text, frac_text, item_text, vecto
 use dc_affine::Atom;
 use dc_cert::{Item, Sparse};
 use dc_frac::Frac;
+use dc_lines::{put_field, put_number, put_whole};
 use std::alloc::{AllocError, Global};
-
-// A number in decimal.
-pub(crate) fn put_number(alloc: Global, out: &mut Vec<u8>, n: u128) -> Result<(), AllocError>
-    ensures { OnOk result (out.new.items ≡ out.old.items ++ decimal n) }
-{
-    let text = format!(in alloc; "{n}")?;
-    out.extend_from_slice(text.as_bytes())
-}
-
-// A signed number in decimal.
-pub(crate) fn put_whole(alloc: Global, out: &mut Vec<u8>, z: &i128) -> Result<(), AllocError>
-    ensures { OnOk result (out.new.items ≡ out.old.items ++ signed_decimal z.now) }
-{
-    if *z < 0 {
-        out.push(b'-')?;
-    }
-    put_number(alloc, out, z.unsigned_abs())
-}
 
 // A fraction: its denominator stands where it isn't 1.
 pub(crate) fn put_fraction(alloc: Global, out: &mut Vec<u8>, f: &Frac) -> Result<(), AllocError>
@@ -58,24 +41,13 @@ pub(crate) fn put_vector(alloc: Global, out: &mut Vec<u8>, s: &Sparse) -> Result
     Ok(())
 }
 
-// A coefficient with a space in front.
-fn put_coef(alloc: Global, out: &mut Vec<u8>, z: &i64) -> Result<(), AllocError>
-    ensures { OnOk result (out.new.items ≡ out.old.items ++ 32 ∷ signed_decimal z.now) }
-{
-    out.push(b' ')?;
-    if *z < 0 {
-        out.push(b'-')?;
-    }
-    put_number(alloc, out, z.unsigned_abs() as u128)
-}
-
 // The numbers of an atom, each with a space in front.
 pub(crate) fn put_atom(alloc: Global, out: &mut Vec<u8>, atom: &Atom) -> Result<(), AllocError>
     ensures { OnOk result (out.new.items ≡ out.old.items ++ atom_text atom.now) }
 {
-    put_coef(alloc, out, &atom.c0)?;
+    put_field(alloc, out, &atom.c0)?;
     for coef in atom.coefs.as_slice() {
-        put_coef(alloc, out, coef)?;
+        put_field(alloc, out, coef)?;
     }
     Ok(())
 }

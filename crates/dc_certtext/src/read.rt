@@ -6,79 +6,15 @@ ghost use Rattle.dc_frac.specs.declared.Frac.{Frac as Fraction};
 ghost use Rattle.dc_frac.specs.Fits.{IsSmall};
 ghost use Rattle.dc_cert.specs.declared.sparse.Item.{Item as Entry};
 ghost use Rattle.dc_cert.specs.Vectors.{IsItem};
-ghost use Rattle.dc_certtext.specs.Cuts.{onward, until};
+ghost use Rattle.dc_lines.specs.Cuts.{onward, until};
 ghost use Rattle.dc_certtext.specs.Words.{den_text, frac_text, item_text};
 
 use dc_cert::Item;
 use dc_frac::{Frac, gcd128};
+use dc_lines::{cut, natural, strip, whole};
 
 // The greatest index of an item.
 const MOST_INDEX: u128 = 8191;
-
-// The greatest size of a part of a fraction.
-const GREATEST: u128 = 0x7fff_ffff_ffff_ffff_ffff_ffff_ffff_ffff;
-
-// The text up to the first place of a byte, and from there on.
-pub(crate) fn cut(text: &[u8], at: u8) -> (&[u8], &[u8])
-    ensures front { result.0.now ≡ until at text.now }
-    ensures rest { result.1.now ≡ onward at text.now }
-{
-    for (k, byte) in text.iter().enumerate() {
-        if *byte == at {
-            return (&text[..k], &text[k..]);
-        }
-    }
-    (text, &[])
-}
-
-#[tactic(auto, using(crate::proofs::Numerals::reading))]
-// The number below 2^127 that a word spells.
-pub(crate) fn natural(word: &[u8]) -> Option<u128>
-    ensures { MatchOption result ((n : ℕ) → n < 2 ^ 127 → ¬ (decimal n ≡ word.now)) (λ n. (n < 2 ^ 127) × (decimal n ≡ word.now)) }
-{
-    if word.is_empty() {
-        return None;
-    }
-    let mut n: u128 = 0;
-    for (k, byte) in word.iter().enumerate() {
-        if *byte < b'0' || *byte > b'9' {
-            return None;
-        }
-        if k > 0 && n == 0 {
-            return None;
-        }
-        let digit = (*byte - b'0') as u128;
-        if n > (GREATEST - digit) / 10 {
-            return None;
-        }
-        n = 10 * n + digit;
-    }
-    Some(n)
-}
-
-// What follows a word at the beginning of a text.
-pub(crate) fn strip<'a>(text: &'a [u8], key: &[u8]) -> Option<&'a [u8]>
-    ensures { MatchOption result ((r : List ℕ) → text.now ≢ key.now ++ r) (λ r. text.now ≡ key.now ++ r.now) }
-{
-    text.strip_prefix(key)
-}
-
-// The whole number of size below 2^127 that a word spells.
-#[tactic(auto, using(crate::proofs::Fractions::wholes))]
-pub(crate) fn whole(word: &[u8]) -> Option<i128>
-    ensures { MatchOption result ((z : ℤ) → unsigned_abs z < 2 ^ 127 → ¬ (signed_decimal z ≡ word.now)) (λ z. (unsigned_abs z < 2 ^ 127) × (signed_decimal z ≡ word.now)) }
-{
-    match strip(word, b"-") {
-        Some(rest) => {
-            let size = natural(rest)?;
-            if size == 0 {
-                return None;
-            }
-            Some(-(size as i128))
-        }
-        None => Some(natural(word)? as i128),
-    }
-}
 
 // The denominator that `/D` spells, 1 where there is nothing.
 #[tactic(auto, using(crate::proofs::Fractions::dens))]

@@ -3,26 +3,18 @@
 //! The drops are by hand, so that a function that drops a stage does so in one step.
 ghost use Rattle.std.specs.Prelude.{◌≡◌, IfOk, IfErr};
 ghost use Rattle.dc_cert.specs.declared.certificate.Certificate.{Certificate as Whole};
-ghost use Rattle.dc_certtext.specs.Stages.{Steps, certificate as certificate_of, closed_by};
-ghost use Rattle.dc_certtext.specs.Due.{with_vector as stage_with};
+ghost use Rattle.dc_certtext.specs.Stages.{Steps, closed_by};
+ghost use Rattle.dc_certtext.specs.Due.{certificate as certificate_of, with_vector as stage_with};
 
 use crate::step::{
     between, cases, edges, end, entries, floor, heads, locations, main_line, main_vector, opened,
     sizes, start, version,
 };
 use dc_affine::Atom;
-use dc_cert::{Body, Certificate, EdgeCert, Liveness, SideCert, Sparse};
+use dc_cert::{Body, Certificate, Claim, EdgeCert, Liveness, SideCert, Sparse};
 use dc_frac::Frac;
 use sqlite_items::Items;
 use std::alloc::{AllocError, Global};
-
-/// What the first lines claim.
-#[derive(Clone, Copy)]
-pub enum Claim {
-    Threshold(Frac),
-    Nothing,
-    Vacuous,
-}
 
 /// The lines up to the cases of the condition; `cases` says how many there will be.
 pub struct Head {

@@ -4,13 +4,12 @@ ghost use Rattle.dc_certtext.specs.Stages.{Steps, sized as sized_stage, with_whe
 ghost use Rattle.dc_certtext.specs.Text.{entry_line, numbered, sizes_line, whole_line};
 ghost use Rattle.dc_certtext.specs.Due.{due as due_word};
 
-use crate::behind::{atom_behind, fraction_behind, is, number_behind, shown_behind, vector_behind};
-use crate::put::{put_number, put_whole};
-use crate::read::{cut, natural, strip};
-use crate::stage::{Claim, Found, Front, Head, Stage};
+use crate::behind::{atom_behind, fraction_behind, number_behind, shown_behind, vector_behind};
+use crate::stage::{Found, Front, Head, Stage};
 use dc_affine::Atom;
-use dc_cert::{Certificate, EdgeCert, Liveness, SideCert, Sparse};
+use dc_cert::{Certificate, Claim, EdgeCert, Liveness, SideCert, Sparse};
 use dc_frac::Frac;
+use dc_lines::{cut, is_same, natural, put_number, put_whole, strip};
 use sqlite_items::Items;
 use std::alloc::{AllocError, Global};
 
@@ -34,10 +33,10 @@ pub(crate) fn start(line: &[u8]) -> Option<Stage>
     if let Some(t) = fraction_behind(line, b"threshold ") {
         return Some(Stage::Whole(t));
     }
-    if is(line, b"none") {
+    if is_same(line, b"none") {
         return Some(Stage::Version(Claim::Nothing));
     }
-    if is(line, b"vacuous") {
+    if is_same(line, b"vacuous") {
         return Some(Stage::Version(Claim::Vacuous));
     }
     None
@@ -48,7 +47,7 @@ pub(crate) fn floor(alloc: Global, line: &[u8], t: Frac) -> Result<Option<Stage>
     ensures { IfOk result (λ o. Steps (Stage.Whole t) line.now o) }
 {
     let text = whole_text(alloc, &t)?;
-    if is(line, text.as_slice()) {
+    if is_same(line, text.as_slice()) {
         return Ok(Some(Stage::Version(Claim::Threshold(t))));
     }
     Ok(None)
@@ -200,7 +199,7 @@ pub(crate) fn heads(alloc: Global, line: &[u8], head: Head) -> Result<Option<Sta
         }
         return Ok(Some(Stage::Heads(with_when(head, l)?)));
     }
-    if is(line, b"side new") {
+    if is_same(line, b"side new") {
         if head.when.len() < head.cases {
             return Ok(None);
         }
@@ -214,7 +213,7 @@ pub(crate) fn opened(alloc: Global, line: &[u8], front: Front) -> Result<Option<
     ensures { IfOk result (λ o. Steps (Stage.Opened front) line.now o) }
 {
     let text = number_text(alloc, b"location ", 0)?;
-    if is(line, text.as_slice()) {
+    if is_same(line, text.as_slice()) {
         return Ok(Some(Stage::Locations(front, Items::new(alloc), Items::new(alloc))));
     }
     Ok(None)
@@ -238,7 +237,7 @@ pub(crate) fn locations(
         return Ok(Some(Stage::Locations(front, done, last)));
     }
     let next = number_text(alloc, b"location ", done.len() + 1)?;
-    if is(line, next.as_slice()) {
+    if is_same(line, next.as_slice()) {
         if done.len() + 1 >= MOST_LOCATIONS {
             return Ok(None);
         }
@@ -246,7 +245,7 @@ pub(crate) fn locations(
         return Ok(Some(Stage::Locations(front, done, Items::new(alloc))));
     }
     let entry = entry_text(alloc, front.head.version, 0)?;
-    if is(line, entry.as_slice()) {
+    if is_same(line, entry.as_slice()) {
         done.push(last)?;
         return Ok(Some(Stage::Entries(front, done, Items::new(alloc), Items::new(alloc))));
     }
@@ -272,7 +271,7 @@ pub(crate) fn entries(
         return Ok(Some(Stage::Entries(front, families, done, last)));
     }
     let next = entry_text(alloc, front.head.version, done.len() + 1)?;
-    if is(line, next.as_slice()) {
+    if is_same(line, next.as_slice()) {
         if done.len() + 1 >= front.head.cases {
             return Ok(None);
         }
@@ -354,7 +353,7 @@ pub(crate) fn edges(
 pub(crate) fn between(line: &[u8], head: Head, new: SideCert) -> Option<Stage>
     ensures { Steps (Stage.Between head new) line.now result }
 {
-    if is(line, b"side old") {
+    if is_same(line, b"side old") {
         return Some(Stage::Opened(Front {
             head,
             new: Some(new),
@@ -367,7 +366,7 @@ pub(crate) fn between(line: &[u8], head: Head, new: SideCert) -> Option<Stage>
 pub(crate) fn main_line(line: &[u8], head: Head, new: SideCert, old: SideCert) -> Option<Stage>
     ensures { Steps (Stage.Closed head new old) line.now result }
 {
-    if is(line, b"main") {
+    if is_same(line, b"main") {
         return Some(Stage::Main(head, new, old, Found::None));
     }
     None
@@ -413,7 +412,7 @@ pub(crate) fn main_vector(
 pub(crate) fn end(line: &[u8], c: Certificate) -> Option<Stage>
     ensures { Steps (Stage.End c) line.now result }
 {
-    if is(line, b"end") {
+    if is_same(line, b"end") {
         return Some(Stage::Done(c));
     }
     None

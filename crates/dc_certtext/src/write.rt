@@ -1,14 +1,18 @@
 //! The text of a certificate.
 ghost use Rattle.std.specs.Prelude.{ℕ, List, ◌≡◌, ◌≤◌, ◌<◌, ◌++◌, ◌∷◌, [], map, length, codes, OnOk, IfOk, IfErr};
+ghost use Rattle.dc_cert.specs.Claims.{claim_of};
 ghost use Rattle.dc_cert.specs.Ranges.{IsCertificate};
 ghost use Rattle.dc_certtext.specs.Limits.{limit};
 ghost use Rattle.dc_certtext.specs.WriteFaults.{IsWriteFault};
-ghost use Rattle.dc_certtext.specs.Text.{atom_line, body_lines, cases_lines, claim_lines, edge_line, edge_lines, ended, entry_line, entry_lines, groups, head_lines, keep_lines, location_lines, numbered, shown_line, shown_text, side_lines, sizes_line, text_of, threshold_line, vector_line, whole_line};
+ghost use Rattle.dc_certtext.specs.Words.{frac_text};
+ghost use Rattle.dc_certtext.specs.Text.{atom_line, body_lines, cases_lines, claim_lines, edge_line, edge_lines, entry_line, entry_lines, groups, head_lines, keep_lines, location_lines, numbered, shown_line, shown_text, side_lines, sizes_line, text_of, threshold_line, vector_line, whole_line};
+ghost use Rattle.dc_lines.specs.Bytes.{ended};
 
-use crate::put::{put_atom, put_fraction, put_number, put_vector, put_whole};
+use crate::put::{put_atom, put_fraction, put_vector};
 use dc_affine::Atom;
-use dc_cert::{Body, Certificate, EdgeCert, Liveness, SideCert, Sparse};
+use dc_cert::{Body, Certificate, Claim, EdgeCert, Liveness, SideCert, Sparse};
 use dc_frac::Frac;
+use dc_lines::{put_number, put_whole};
 use sqlite_items::Items;
 use std::alloc::{AllocError, Global};
 use thiserror::Error;
@@ -69,7 +73,7 @@ fn shown(alloc: Global, out: &mut Vec<u8>, word: &[u8], l: &Liveness) -> Result<
 }
 
 // The vectors of a list of keeps.
-#[tactic(auto, using(crate::proofs::Lines::writing))]
+#[tactic(auto, using(dc_lines::proofs::Lines::writing))]
 fn keeps(alloc: Global, out: &mut Vec<u8>, list: &[Sparse]) -> Result<(), AllocError>
     ensures { OnOk result (out.new.items ≡ out.old.items ++ ended (keep_lines list.now)) }
 {
@@ -90,7 +94,7 @@ fn atom(alloc: Global, out: &mut Vec<u8>, a: &Atom) -> Result<(), AllocError>
 }
 
 // A location with its atoms.
-#[tactic(auto, using(crate::proofs::Lines::writing))]
+#[tactic(auto, using(dc_lines::proofs::Lines::writing))]
 fn location(
     alloc: Global,
     out: &mut Vec<u8>,
@@ -107,7 +111,7 @@ fn location(
 }
 
 // All locations.
-#[tactic(auto, using(crate::proofs::Lines::writing))]
+#[tactic(auto, using(dc_lines::proofs::Lines::writing))]
 fn locations(alloc: Global, out: &mut Vec<u8>, list: &[Items<Atom>]) -> Result<(), AllocError>
     ensures { OnOk result (out.new.items ≡ out.old.items ++ ended (groups location_lines 0 list.now)) }
 {
@@ -118,7 +122,7 @@ fn locations(alloc: Global, out: &mut Vec<u8>, list: &[Items<Atom>]) -> Result<(
 }
 
 // The entry for one case of the condition with its keeps.
-#[tactic(auto, using(crate::proofs::Lines::writing))]
+#[tactic(auto, using(dc_lines::proofs::Lines::writing))]
 fn entry(
     alloc: Global,
     out: &mut Vec<u8>,
@@ -137,7 +141,7 @@ fn entry(
 }
 
 // All entries.
-#[tactic(auto, using(crate::proofs::Lines::writing))]
+#[tactic(auto, using(dc_lines::proofs::Lines::writing))]
 fn entries(
     alloc: Global,
     out: &mut Vec<u8>,
@@ -153,7 +157,7 @@ fn entries(
 }
 
 // An edge with its keeps.
-#[tactic(auto, using(crate::proofs::Lines::writing))]
+#[tactic(auto, using(dc_lines::proofs::Lines::writing))]
 fn edge(alloc: Global, out: &mut Vec<u8>, n: usize, e: &EdgeCert) -> Result<(), AllocError>
     ensures { OnOk result (out.new.items ≡ out.old.items ++ ended (edge_lines n e.now)) }
 {
@@ -165,7 +169,7 @@ fn edge(alloc: Global, out: &mut Vec<u8>, n: usize, e: &EdgeCert) -> Result<(), 
 }
 
 // All edges.
-#[tactic(auto, using(crate::proofs::Lines::writing))]
+#[tactic(auto, using(dc_lines::proofs::Lines::writing))]
 fn edges(alloc: Global, out: &mut Vec<u8>, list: &[EdgeCert]) -> Result<(), AllocError>
     ensures { OnOk result (out.new.items ≡ out.old.items ++ ended (groups edge_lines 0 list.now)) }
 {
@@ -176,7 +180,7 @@ fn edges(alloc: Global, out: &mut Vec<u8>, list: &[EdgeCert]) -> Result<(), Allo
 }
 
 // What is kept of one program.
-#[tactic(auto, using(crate::proofs::Lines::writing))]
+#[tactic(auto, using(dc_lines::proofs::Lines::writing))]
 fn side(alloc: Global, out: &mut Vec<u8>, version: u8, s: &SideCert) -> Result<(), AllocError>
     ensures { OnOk result (out.new.items ≡ out.old.items ++ ended (side_lines version s.now)) }
 {
@@ -187,18 +191,25 @@ fn side(alloc: Global, out: &mut Vec<u8>, version: u8, s: &SideCert) -> Result<(
 }
 
 // What is claimed: a threshold has its floor on a second line.
-#[tactic(auto, using(crate::proofs::Lines::writing))]
-fn claim(alloc: Global, out: &mut Vec<u8>, body: &Body) -> Result<(), AllocError>
-    ensures { OnOk result (out.new.items ≡ out.old.items ++ ended (claim_lines body.now)) }
+#[tactic(auto, using(dc_lines::proofs::Lines::writing))]
+fn put_claim(alloc: Global, out: &mut Vec<u8>, what: &Claim) -> Result<(), AllocError>
+    ensures { OnOk result (out.new.items ≡ out.old.items ++ ended (claim_lines what.now)) }
 {
-    match body {
-        Body::Threshold { t, .. } => {
+    match what {
+        Claim::Threshold(t) => {
             threshold(alloc, out, t)?;
             whole(alloc, out, t)
         }
-        Body::Nothing { .. } => plain(out, b"none"),
-        Body::Vacuous { .. } => plain(out, b"vacuous"),
+        Claim::Nothing => plain(out, b"none"),
+        Claim::Vacuous => plain(out, b"vacuous"),
     }
+}
+
+fn claim(alloc: Global, out: &mut Vec<u8>, body: &Body) -> Result<(), AllocError>
+    ensures { OnOk result (out.new.items ≡ out.old.items ++ ended (claim_lines (claim_of body.now))) }
+{
+    let what = body.claim();
+    put_claim(alloc, out, &what)
 }
 
 fn threshold(alloc: Global, out: &mut Vec<u8>, t: &Frac) -> Result<(), AllocError>
@@ -268,7 +279,7 @@ fn head(alloc: Global, out: &mut Vec<u8>, c: &Certificate) -> Result<(), AllocEr
 }
 
 // Two vectors.
-#[tactic(auto, using(crate::proofs::Lines::writing))]
+#[tactic(auto, using(dc_lines::proofs::Lines::writing))]
 fn pair(
     alloc: Global,
     out: &mut Vec<u8>,
@@ -309,7 +320,7 @@ fn rays(
 }
 
 // The vectors of the main problem.
-#[tactic(auto, using(crate::proofs::Lines::writing))]
+#[tactic(auto, using(dc_lines::proofs::Lines::writing))]
 fn body(alloc: Global, out: &mut Vec<u8>, body: &Body) -> Result<(), AllocError>
     ensures { OnOk result (out.new.items ≡ out.old.items ++ ended (body_lines body.now)) }
 {
@@ -357,6 +368,25 @@ pub enum WriteFault {
     TooLarge { count: u64 },
     #[error("out of memory")]
     NoMemory,
+}
+
+/// The lines of a claim, as a certificate's text begins and as the commands print them: `threshold F` with
+/// `whole W` below, `none`, or `vacuous`, each with its line feed.
+pub fn write_claim(alloc: Global, what: &Claim) -> Result<Vec<u8>, AllocError>
+    ensures { IfOk result (λ v. v.items ≡ ended (claim_lines what.now)) }
+{
+    let mut out = Vec::new(alloc);
+    put_claim(alloc, &mut out, what)?;
+    Ok(out)
+}
+
+/// A fraction as texts spell it: the numerator, and `/` with the denominator where it isn't 1.
+pub fn write_fraction(alloc: Global, f: &Frac) -> Result<Vec<u8>, AllocError>
+    ensures { IfOk result (λ v. v.items ≡ frac_text f.now) }
+{
+    let mut out = Vec::new(alloc);
+    put_fraction(alloc, &mut out, f)?;
+    Ok(out)
 }
 
 /// The greatest number of bytes of a text.

@@ -1,7 +1,7 @@
 use Rattle.std.proofs.Common.{◌∙◌, ap, arith, refl}
 use Rattle.std.proofs.lemmas.List.{length-set, take_all}
 use Rattle.dc_cert.specs.Vectors.{entry_of}
-use Rattle.dc_cert.specs.VectorLaws.{write_item, below_at}
+use Rattle.dc_cert.proofs.VectorLaws.{write_item, below_at}
 use Rattle.dc_cert.proofs.sparse.dense_of.Goals as goal
 
 pub loop-item-preserved : goal.loop-item-preserved

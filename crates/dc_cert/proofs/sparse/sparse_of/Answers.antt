@@ -1,6 +1,6 @@
 use Rattle.std.proofs.Common.{sym, ◌∙◌, ap, ◌++◌, ◌∷◌, []}
 use Rattle.dc_cert.specs.declared.sparse.Item.{Item}
-use Rattle.dc_cert.specs.VectorLaws.{keep_zero, keep_value, within_value, within_same, within_items}
+use Rattle.dc_cert.proofs.VectorLaws.{keep_zero, keep_value, within_value, within_same, within_items}
 use Rattle.dc_cert.proofs.sparse.sparse_of.Goals as goal
 use Rattle.dc_cert.proofs.sparse.sparse_of.Goals.{then-not-is_zero+in_ok-push, else-not-is_zero}
 

@@ -1,6 +1,6 @@
 use Rattle.std.proofs.Common.{◌≡◌, ◌≤◌, ◌++◌, length, drop}
 use Rattle.dc_cert.specs.Vectors.{nonzero_from}
-use Rattle.dc_cert.specs.VectorLaws.{AreWithin}
+use Rattle.dc_cert.proofs.VectorLaws.{AreWithin}
 use Rattle.dc_cert.proofs.sparse.sparse_of.Given as goal
 
 abbrev pub invariant-loop-index : goal.invariant-loop-index

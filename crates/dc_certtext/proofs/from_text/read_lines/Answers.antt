@@ -1,15 +1,18 @@
 use Rattle.std.proofs.Common.{subst, arith}
 use Rattle.dc_certtext.specs.Stages.{Steps}
-use Rattle.dc_certtext.proofs.TextRuns.{reached_few, reached_wrong, reached_end}
+use Rattle.dc_lines.proofs.Readers.{reached_few, reached_wrong, reached_end}
+use Rattle.dc_certtext.specs.declared.stage.Stage.TheVariants.{Start}
+use Rattle.dc_certtext.proofs.Paths.{Step}
+use Rattle.dc_certtext.proofs.Machine.{certificates}
 use Rattle.dc_certtext.proofs.from_text.read_lines.Goals as goal
 
 pub returns-in_default-2 : goal.returns-in_default-2
 returns-in_default-2 c =
-    reached_wrong c.args.text.now c.lines.rest.now c.in-Some.front.now c.in-Some.behind.now c.lines.stage c.lines.line c.in-Some.ensures.0 c.in-Some.ensures.1
+    reached_wrong certificates c.args.text.now c.lines.rest.now c.in-Some.front.now c.in-Some.behind.now c.lines.stage c.lines.line c.in-Some.ensures.0 c.in-Some.ensures.1
     (subst (Steps c.lines.stage c.in-Some.front.now) c.in_default-2.is c.in_ok-next.ensures) c.lines.invariant
 
 pub overflow_add-line : goal.overflow_add-line
-overflow_add-line c = (let x = reached_few c.args.text.now c.lines.rest.now c.lines.stage c.lines.line c.lines.invariant in let y = c.requires in omega arith)
+overflow_add-line c = (let x = reached_few Start Step c.args.text.now c.lines.rest.now c.lines.stage c.lines.line c.lines.invariant in let y = c.requires in omega arith)
 
 pub returns : goal.returns
-returns c = reached_end c.args.text.now c.lines.rest.now c.lines.stage c.lines.line c.finished.result c.in_default.ensures c.finished.ensures c.lines.invariant
+returns c = reached_end certificates c.args.text.now c.lines.rest.now c.lines.stage c.lines.line c.finished.result c.in_default.ensures c.finished.ensures c.lines.invariant

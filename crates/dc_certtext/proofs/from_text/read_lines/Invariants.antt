@@ -1,5 +1,5 @@
 use Rattle.std.proofs.Common.{length}
-use Rattle.dc_certtext.proofs.TextRuns.{Reached}
+use Rattle.dc_certtext.proofs.Machine.{Reached}
 use Rattle.dc_certtext.proofs.from_text.read_lines.Given as goal
 
 abbrev pub invariant-lines : goal.invariant-lines

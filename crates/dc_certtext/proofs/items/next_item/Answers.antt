@@ -1,4 +1,5 @@
-use Rattle.dc_certtext.proofs.Taken.{refuse_item, piece_is, piece-starts}
+use Rattle.dc_certtext.proofs.Taken.{refuse_item}
+use Rattle.dc_lines.proofs.Fields.{piece_is, piece-starts}
 use Rattle.dc_certtext.proofs.items.next_item.Goals as goal
 
 pub returns-in_default-item : goal.returns-in_default-item

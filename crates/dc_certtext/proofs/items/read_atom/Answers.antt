@@ -2,7 +2,7 @@ use Rattle.std.proofs.Common.{◌<◌, ◌≤◌, sym, subst, SFits, rules, arit
 use Rattle.std.specs.Int.{w64}
 use Rattle.std.proofs.lemmas.Int.{to_z-of_z}
 use Rattle.std.specs.Prelude.{List, ℤ}
-use Rattle.dc_certtext.proofs.Taken.{some_is}
+use Rattle.dc_lines.proofs.Cutting.{some_is}
 use Rattle.dc_certtext.proofs.Counted.{Counted, counted_start, counted_step, counted_refuse, counted_wide, no_constant}
 use Rattle.dc_certtext.proofs.items.read_atom.Goals as goal
 

@@ -1,4 +1,5 @@
-use Rattle.dc_certtext.proofs.Taken.{taken_refuse, taken_low, taken_step, taken_end, empty_is, some_is}
+use Rattle.dc_certtext.proofs.Taken.{taken_refuse, taken_low, taken_step, taken_end}
+use Rattle.dc_lines.proofs.Cutting.{empty_is, some_is}
 use Rattle.dc_certtext.proofs.items.read_items.Goals as goal
 
 pub returns-in_default : goal.returns-in_default

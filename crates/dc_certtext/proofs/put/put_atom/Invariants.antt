@@ -1,6 +1,6 @@
 use Rattle.std.proofs.Common.{◌≡◌, ◌++◌, drop}
 use Rattle.std.specs.Fmt.{signed_decimal}
-use Rattle.dc_certtext.specs.Words.{spaced}
+use Rattle.dc_lines.specs.Bytes.{spaced}
 use Rattle.dc_certtext.proofs.put.put_atom.Given as goal
 
 abbrev pub invariant-loop-coef : goal.invariant-loop-coef

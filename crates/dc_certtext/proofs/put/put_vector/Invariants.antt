@@ -1,5 +1,6 @@
 use Rattle.std.proofs.Common.{◌≡◌, ◌++◌, drop}
-use Rattle.dc_certtext.specs.Words.{item_text, spaced}
+use Rattle.dc_certtext.specs.Words.{item_text}
+use Rattle.dc_lines.specs.Bytes.{spaced}
 use Rattle.dc_certtext.proofs.put.put_vector.Given as goal
 
 -- what is written, with what is still to come, is the whole

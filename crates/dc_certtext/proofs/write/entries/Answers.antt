@@ -1,5 +1,5 @@
 use Rattle.dc_certtext.specs.Text.{entry_lines}
-use Rattle.dc_certtext.proofs.Lines.{group_step}
+use Rattle.dc_certtext.proofs.Groups.{group_step}
 use Rattle.dc_certtext.proofs.write.entries.Goals as goal
 
 pub loop-n-preserved : goal.loop-n-preserved

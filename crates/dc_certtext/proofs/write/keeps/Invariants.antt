@@ -1,5 +1,6 @@
 use Rattle.std.proofs.Common.{◌≡◌, ◌++◌, drop}
-use Rattle.dc_certtext.specs.Text.{ended, keep_lines}
+use Rattle.dc_lines.specs.Bytes.{ended}
+use Rattle.dc_certtext.specs.Text.{keep_lines}
 use Rattle.dc_certtext.proofs.write.keeps.Given as goal
 
 -- what is written, with what is still to come, is the whole

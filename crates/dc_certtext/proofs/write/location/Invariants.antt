@@ -1,5 +1,6 @@
 use Rattle.std.proofs.Common.{◌≡◌, ◌++◌, drop, map}
-use Rattle.dc_certtext.specs.Text.{ended, atom_line}
+use Rattle.dc_lines.specs.Bytes.{ended}
+use Rattle.dc_certtext.specs.Text.{atom_line}
 use Rattle.dc_certtext.proofs.write.location.Given as goal
 
 -- what is written, with what is still to come, is the whole

@@ -1,6 +1,6 @@
 use Rattle.std.specs.Prelude.{codes, ◌∷◌, [], ◌++◌}
 use Rattle.dc_certtext.specs.Text.{head_lines, side_lines, body_lines}
-use Rattle.dc_certtext.proofs.Lines.{joined₄, joined₅}
+use Rattle.dc_lines.proofs.Lines.{joined₄, joined₅}
 use Rattle.dc_certtext.proofs.write.put_text.Goals as goal
 
 pub returns : goal.returns

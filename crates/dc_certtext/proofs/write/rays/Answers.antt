@@ -1,6 +1,6 @@
 use Rattle.std.specs.Prelude.{codes, ◌∷◌, []}
 use Rattle.dc_certtext.specs.Text.{vector_line}
-use Rattle.dc_certtext.proofs.Lines.{joined}
+use Rattle.dc_lines.proofs.Lines.{joined}
 use Rattle.dc_certtext.proofs.write.rays.Goals as goal
 
 pub returns : goal.returns

@@ -1,6 +1,7 @@
 use Rattle.std.proofs.Common.{◌≡◌, ◌++◌, drop, map}
 use Rattle.std.specs.Prelude.{codes}
-use Rattle.dc_certtext.specs.Text.{ended, shown_line}
+use Rattle.dc_lines.specs.Bytes.{ended}
+use Rattle.dc_certtext.specs.Text.{shown_line}
 use Rattle.dc_certtext.proofs.write.whens.Given as goal
 
 -- what is written, with what is still to come, is the whole

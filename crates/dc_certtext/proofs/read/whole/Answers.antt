@@ -1,6 +1,0 @@
-use Rattle.dc_certtext.proofs.Fractions.{refuse_minus_zero}
-use Rattle.dc_certtext.proofs.read.whole.Goals as goal
-
-pub returns-then-size-eq0 : goal.returns-then-size-eq0
-returns-then-size-eq0 c =
-    refuse_minus_zero c.args.word.now c.in-Some.rest.now c.in_ok-size-in-Some.size c.in-Some.ensures c.if-size-eq0.true c.in_ok-size-in-Some.ensures.1

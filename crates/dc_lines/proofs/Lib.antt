@@ -1,0 +1,9 @@
+pub mod Cutting
+pub mod Numerals
+pub mod Lines
+pub mod LinesOf
+pub mod Fields
+pub mod Listed
+pub mod Readers
+pub mod Outcome
+pub mod Decided
