@@ -46,7 +46,10 @@ fn compare_sizes(a: u128, b: u128, c: u128, d: u128) -> Ordering
 impl Frac {
     /// The order of two fractions, by whole parts and remainders.
     pub fn cmp(&self, other: &Frac) -> Ordering
-        ensures { MatchOrdering result (value self.now <ℚ value other.now) (value self.now ≡ value other.now) (value other.now <ℚ value self.now) }
+        ensures { MatchOrdering result
+            (value self.now <ℚ value other.now)
+            (value self.now ≡ value other.now)
+            (value other.now <ℚ value self.now) }
     {
         if self.den == other.den {
             // saves all products and divisions; whole numbers are among these

@@ -139,7 +139,7 @@ order_is_free n hyps c d h e =
     (choice_canonical fs one c (Canonical-constant (pos 1) n)) (choice_canonical fs one d (Canonical-constant (pos 1) n))
     (choice_padded n hyps one c (Places-constant (pos 1) n)) (choice_padded n hyps one d (Places-constant (pos 1) n))
     (λ xs l. have_values n hyps c xs h ∙ choice_product hyps c xs
-      ∙ sym (product-same (λ i. atom_value (atom_at hyps i) xs) c d e) ∙ sym (choice_product hyps d xs) ∙ sym (have_values n hyps d xs h)))
+    ∙ sym (product-same (λ i. atom_value (atom_at hyps i) xs) c d e) ∙ sym (choice_product hyps d xs) ∙ sym (have_values n hyps d xs h)))
   where
     fs : List Polynomial
     fs = map (form_of n) hyps

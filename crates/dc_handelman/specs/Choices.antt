@@ -1,4 +1,5 @@
--- Choices of factors: which numbers may be multiplied, in which order the choices stand, and the list of them.
+-- Choices of factors: which numbers may be multiplied, in which order the choices stand, and the
+-- list of them.
 use Rattle.std.specs.Prelude.{◌≡◌, ◌⊎◌, ℕ, zero, suc, ◌≤◌, ◌<◌, List, [], ◌∷◌, ◌++◌, map, length, All, AllPairs, Contains}
 
 -- the numbers of the factors of a product, a multiset: they rise, and one may be repeated
@@ -25,8 +26,8 @@ pub data Before (c d : Choice) : Type 0 where
   fewer : length c < length d → Before c d
   level : length c ≡ length d → Smaller c d → Before c d
 
--- the choices of at most k numbers below n: these alone, each of them, and in order. The order is strict, so each stands
--- there once, the empty one first.
+-- the choices of at most k numbers below n: these alone, each of them, and in order. The order is
+-- strict, so each stands there once, the empty one first.
 pub record AreChoices (n k : ℕ) (cs : List Choice) : Type 0 where
   pub only : All (IsChoice n k) cs
   pub each : (c : Choice) → IsChoice n k c → Contains cs c

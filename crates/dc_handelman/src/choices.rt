@@ -62,7 +62,9 @@ fn extend(
     requires factors { All (IsProduct product.now.places 1) factors.now }
     requires product { IsProduct product.now.places (3 - left) product.now }
     ensures { OnOk result
-        (out.new.items ≡ out.old.items ++ map (times_choice factors.now product.now) (of_size (length factors.now - from) from left)) }
+        (out.new.items
+        ≡ out.old.items
+        ++ map (times_choice factors.now product.now) (of_size (length factors.now - from) from left)) }
 {
     if left == 0 {
         out.push(product.copy(alloc)?)?;

@@ -1,5 +1,6 @@
--- What a call requires of its operands, so that its result is again a polynomial of at most 11 places, degree at most 12 and
--- coefficients that fit: each weight is that of the result computed without cancelling.
+-- What a call requires of its operands, so that its result is again a polynomial of at most 11
+-- places, degree at most 12 and coefficients that fit: each weight is that of the result computed
+-- without cancelling.
 use Rattle.std.specs.Prelude.{◌≡◌, ℕ, ◌+◌, ◌*◌, ◌^◌, ◌≤◌, List, [], ◌∷◌, length, unsigned_abs}
 use Rattle.dc_poly.specs.Terms.{Exponents, TermList, Places, degree_of, weight, largest, Polynomial}
 use Rattle.dc_poly.specs.Sums.{times, first_of, rest_of, composed, places_of}

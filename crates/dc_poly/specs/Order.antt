@@ -1,10 +1,12 @@
--- Graded order: the lower degree first, then the one with the greater exponent at the first difference.
+-- Graded order: the lower degree first, then the one with the greater exponent at the first
+-- difference.
 use Rattle.std.specs.Prelude.{◌≡◌, cond, ltb, [], ◌∷◌}
 use Rattle.std.specs.declared.cmp.Ordering.{Ordering}
 use Rattle.std.specs.declared.cmp.Ordering.TheVariants as std_order
 use Rattle.dc_poly.specs.Terms.{Exponents, degree, Before}
 
--- the first difference decides: the greater exponent goes first, and a list that ends goes before one that goes on
+-- the first difference decides: the greater exponent goes first, and a list that ends goes before
+-- one that goes on
 abbrev pub by_first : Exponents → Exponents → Ordering
 by_first [] [] = std_order.Equal
 by_first [] (f ∷ k) = std_order.Less

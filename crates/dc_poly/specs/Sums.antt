@@ -13,7 +13,11 @@ with_term m (negsuc n) p = term m (negsuc n) ∷ p
 -- into an ordered list
 abbrev pub insert : Exponents → ℤ → TermList → TermList
 insert m c [] = with_term m c []
-insert m c (t ∷ p) = elim (graded m t.mono) [ Less ↦ with_term m c (t ∷ p) | Equal ↦ with_term m (c +ℤ t.coef) p | Greater ↦ t ∷ insert m c p ]
+insert m c (t ∷ p) = elim (graded m t.mono) [
+  | Less ↦ with_term m c (t ∷ p)
+  | Equal ↦ with_term m (c +ℤ t.coef) p
+  | Greater ↦ t ∷ insert m c p
+]
 
 abbrev pub plus : TermList → TermList → TermList
 plus [] q = q

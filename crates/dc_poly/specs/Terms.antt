@@ -46,7 +46,8 @@ abbrev pub coef : TermList → Exponents → ℤ
 coef [] m = pos 0
 coef (t ∷ p) m = cond (same_mono t.mono m) t.coef (pos 0) +ℤ coef p m
 
--- ---- graded order: lower degree first, then the one with the greater exponent at the first difference
+-- ---- graded order: lower degree first, then the one with the greater exponent at the first
+-- difference
 abbrev pub degree : Exponents → ℕ
 degree [] = 0
 degree (e ∷ m) = e + degree m

@@ -4,8 +4,8 @@ use Rattle.dc_poly.specs.Terms.{Exponents, Before}
 use Rattle.dc_poly.specs.Sums.{times_mono, zeros}
 use Rattle.dc_poly.specs.Monomials.{IsWithin, of_degree, monomials_of}
 
--- the monomials of n places and of degree at most d: these alone, each of them, and in graded order. That order is strict,
--- so each stands there once.
+-- the monomials of n places and of degree at most d: these alone, each of them, and in graded order.
+-- That order is strict, so each stands there once.
 pub record AreMonomials (n d : ℕ) (ms : List Exponents) : Type 0 where
   pub only : All (IsWithin n d) ms
   pub each : (m : Exponents) → IsWithin n d m → Contains ms m
@@ -13,7 +13,8 @@ pub record AreMonomials (n d : ℕ) (ms : List Exponents) : Type 0 where
 
 -- there is one such list
 abbrev pub AreFixed : Type 0
-AreFixed = (n d : ℕ) (ms ks : List Exponents) → AreMonomials n d ms → AreMonomials n d ks → ms ≡ ks
+AreFixed = (n d : ℕ) (ms ks : List Exponents)
+    → AreMonomials n d ms → AreMonomials n d ks → ms ≡ ks
 
 -- the list of all monomials is the one that these facts fix
 abbrev pub IsTheList : Type 0

@@ -52,7 +52,8 @@ fn times_power(alloc: Global, column: Poly, update: &Poly, exponent: u8) -> Resu
     requires low { degree_of column.terms + 2 * exponent ≤ 12 }
     requires light { weight column.terms * normal_weight ^ exponent ≤ largest }
     ensures value { IfOk result
-        (λ p. (xs : List ℤ) → value p.terms xs ≡ power (value update.now.terms xs) exponent *ℤ value column.terms xs) }
+        (λ p. (xs : List ℤ) → value p.terms xs
+        ≡ power (value update.now.terms xs) exponent *ℤ value column.terms xs) }
     ensures places { IfOk result (λ p. p.places ≡ column.places) }
     ensures kind { IfOk result (λ p. IsPolynomial p) }
     ensures degree { IfOk result (λ p. degree_of p.terms ≤ degree_of column.terms + 2 * exponent) }
