@@ -5,9 +5,9 @@ use Rattle.dc_math.specs.Rational.{of_ℤ}
 use Rattle.dc_poly.specs.declared.monomial.Term.{Term}
 use Rattle.dc_poly.specs.Terms.{Exponents, TermList, mono_value, value, coef, degree_of, Before, Polynomial, IsPolynomial}
 use Rattle.dc_poly.specs.Order.{graded, Told}
-use Rattle.dc_poly.specs.Sums.{plus}
+use Rattle.dc_poly.specs.Sums.{plus, values}
 use Rattle.dc_poly.specs.Grid.{Over, Grid, whole}
-use Rattle.dc_poly.specs.Affine.{Affine, scaled_value}
+use Rattle.dc_poly.specs.Affine.{Affine, scaled_value, scaled_values}
 use Rattle.dc_poly.specs.Combinations as combinations
 use Rattle.dc_poly.specs.Combinations.{Multiple, value_of, coef_of}
 
@@ -54,13 +54,18 @@ abbrev pub FewTerms : Type 0
 FewTerms = (p : Polynomial) → IsPolynomial p → degree_of p.terms ≤ 2 → length p.terms ≤ 78
 
 -- a form at numbers over 1 has its value there, a point may be written with any denominator, and
--- the form of a sum is the sum of the forms
+-- the form of a sum is the sum of the forms; so are the points that lists of forms lead to
 pub record AtRationalPoints : Type 0 where
-  pub whole_point : (n : ℕ) (p : TermList) (xs : List ℤ) → Affine n p → scaled_value n p (pos 1) xs ≡ value p xs
+  pub whole_point : (n : ℕ) (p : TermList) (xs : List ℤ)
+      → Affine n p → scaled_value n p (pos 1) xs ≡ value p xs
   pub any_denominator : (n : ℕ) (p : TermList) (k q : ℤ) (xs : List ℤ)
       → scaled_value n p (k *ℤ q) (scale_ℤ k xs) ≡ k *ℤ scaled_value n p q xs
   pub of_sum : (n : ℕ) (p r : TermList) (q : ℤ) (xs : List ℤ)
       → scaled_value n (plus p r) q xs ≡ scaled_value n p q xs +ℤ scaled_value n r q xs
+  pub whole_list : (n : ℕ) (vs : List Polynomial) (xs : List ℤ)
+      → All (λ (v : Polynomial). Affine n v.terms) vs → scaled_values n vs (pos 1) xs ≡ values vs xs
+  pub list_any_denominator : (n : ℕ) (vs : List Polynomial) (k q : ℤ) (xs : List ℤ)
+      → scaled_values n vs (k *ℤ q) (scale_ℤ k xs) ≡ scale_ℤ k (scaled_values n vs q xs)
 
 -- two monomials stand as `graded` says, and before is a strict order
 pub record IsGradedOrder : Type 0 where
