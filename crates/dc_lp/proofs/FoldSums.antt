@@ -7,9 +7,10 @@ use Rattle.dc_math.specs.Rational.{ℚ, ◌+ℚ◌, ◌*ℚ◌, of_ℤ, zero-*�
 use Rattle.dc_math.specs.RationalField.{+ℚ-zero}
 use Rattle.dc_math.specs.Sums.{sum_ℚ, sum_ℚ_none, sum_ℚ_last}
 use Rattle.dc_frac.specs.Fits.{fits, product_fits, sum_fits}
+use Rattle.dc_frac.proofs.ZeroSums.{right_zero}
 use Rattle.dc_lp.specs.Folds.{added, folded, folded_over, checked}
 use Rattle.dc_lp.specs.Laws.{LeavesOut, SumsFit}
-use Rattle.dc_lp.proofs.Zeros.{fits-zero, product_fits-zero, sum_fits-zero, sum-fits}
+use Rattle.dc_lp.proofs.Zeros.{fits-zero, product_fits-zero, sum-fits}
 
 injective : (s t : ℚ) → Some s ≡ Some t → s ≡ t
 injective s t e = cc
@@ -54,7 +55,7 @@ folded-fits (suc n) a x s e = by (folded n a x) e
 pub added-none : (s : ℚ) (a : ℤ) (x : ℚ) → of_ℤ a *ℚ x ≡ of_ℤ (pos 0) → fits s ≡ true → added s a x ≡ Some s
 unfolding added
 added-none s a x z h =
-    ap (λ b. checked b (s +ℚ of_ℤ a *ℚ x)) (and_from _ _ (product_fits-zero (of_ℤ a) x z) (ap (sum_fits s) z ∙ sum_fits-zero s h))
+    ap (λ b. checked b (s +ℚ of_ℤ a *ℚ x)) (and_from _ _ (product_fits-zero (of_ℤ a) x z) (ap (sum_fits s) z ∙ right_zero s ∙ h))
     ∙ ap Some (ap (λ y. s +ℚ y) z ∙ +ℚ-zero s)
 
 pub zero-term : (a : ℤ) (x : ℚ) → (a ≡ pos 0) ⊎ (x ≡ of_ℤ (pos 0)) → of_ℤ a *ℚ x ≡ of_ℤ (pos 0)

@@ -6,7 +6,8 @@ use Rattle.dc_math.specs.RationalRing.{ring, reads, read_nat, same_form, linear�
 use Rattle.dc_math.specs.Inverse.{inverse, ◌/ℚ◌}
 use Rattle.dc_math.specs.Tests.{is_zero, eq_ℚ_true}
 use Rattle.dc_frac.specs.Fits.{fits, quotient_fits, product_fits, sum_fits}
-use Rattle.dc_lp.proofs.Zeros.{fits-zero, zero-sum_fits}
+use Rattle.dc_frac.proofs.ZeroSums.{left_zero}
+use Rattle.dc_lp.proofs.Zeros.{fits-zero}
 use Rattle.dc_lp.proofs.Belows.{or_true}
 use Rattle.dc_start.specs.Changes.{step_fits}
 
@@ -31,7 +32,7 @@ pub step-filled : (factor x y p r : ℚ) → is_zero y ≡ true → product_fits
 step-filled factor x y p r z f e g h =
     let y0 : y ≡ of_ℤ (pos 0) = eq_ℚ_true y (of_ℤ (pos 0)) z in
     let k : fits (neg_ℚ (factor *ℚ x)) ≡ true = ap (λ w. fits (neg_ℚ w)) (sym e) ∙ ap fits (sym g) ∙ h in
-    let d : sum_fits y (neg_ℚ (factor *ℚ x)) ≡ true = ap (λ w. sum_fits w (neg_ℚ (factor *ℚ x))) y0 ∙ zero-sum_fits (neg_ℚ (factor *ℚ x)) k in
+    let d : sum_fits y (neg_ℚ (factor *ℚ x)) ≡ true = ap (λ w. sum_fits w (neg_ℚ (factor *ℚ x))) y0 ∙ left_zero (neg_ℚ (factor *ℚ x)) ∙ k in
     (ap (λ b. is_zero x || b) (and_from (product_fits factor x) (sum_fits y (neg_ℚ (factor *ℚ x))) f d) ∙ or_true (is_zero x), filled factor x y p r y0 e g)
 
 pub ruleset changes = (quotient-zero, step-zero)

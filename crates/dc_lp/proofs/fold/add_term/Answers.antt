@@ -3,7 +3,7 @@ use Rattle.std.proofs.lemmas.Int.{to_z-of_z}
 use mir.Syntax.{w128}
 use Rattle.dc_math.specs.Rational.{ℚ, ◌*ℚ◌}
 use Rattle.dc_frac.specs.Fits.{IsSmall, product_fits}
-use Rattle.dc_lp.proofs.Zeros.{frac-fits}
+use Rattle.dc_frac.proofs.ZeroSums.{fits-value}
 use Rattle.dc_frac.specs.Value.{value}
 use Rattle.dc_lp.proofs.Folding.{added-zero, added-past_product, added-is}
 use Rattle.dc_lp.proofs.fold.add_term.Goals as goal
@@ -12,7 +12,7 @@ pub returns-then-a-eq0 : goal.returns-then-a-eq0
 returns-then-a-eq0 c =
     let e : c.args.a ≡ pos 0 = search rules in
     let d : IsSmall c.args.sum.den = search rules in
-    added-zero (value c.args.sum) c.args.a (value c.args.x) e (frac-fits c.args.sum d)
+    added-zero (value c.args.sum) c.args.a (value c.args.x) e (fits-value c.args.sum d)
 
 pub returns-in_err-mul : goal.returns-in_err-mul
 returns-in_err-mul c =
