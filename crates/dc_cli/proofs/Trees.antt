@@ -8,7 +8,8 @@ use Rattle.dc_syntax.specs.declared.tree.Stmt.{Stmt}
 use Rattle.dc_syntax.specs.Costs.{Costs, start_of}
 use Rattle.dc_syntax.specs.Plain.{plain_cost, HasPlainCost, IsPlain}
 use Rattle.dc_syntax.proofs.PlainRuns.{plain-Run, plain-costs_differ}
-use Rattle.dc_cli.specs.Answer.{text_limit, lines_of, Says, SameParams, IsThreshold, IsAnswer}
+use Rattle.dc_cli.specs.Visits.{Visit, text_limit}
+use Rattle.dc_cli.specs.Answer.{lines_of, Says, SameParams, IsThreshold, IsAnswer}
 
 -- ---- the answer
 abbrev pub IsDifference : Proc → Proc → ℤ → Type 0
@@ -45,22 +46,23 @@ threshold-of p q a b t h k m d = record {
   some_pair = (zeros p.params, pos a, pos b, finished p a h (zeros p.params) (length-zeros p.params), finished q b k (zeros p.params) (length-zeros p.params ∙ m));
 }
 
-pub answer-of : (files after : Option Files) (new old nt ot x y : List ℕ) (p q : Proc) (t : ℤ) (out : List ℕ)
-    → IsTextOf files new text_limit nt → after ≡ files → IsTextOf after old text_limit ot
-    → x ≡ nt → y ≡ ot → Says x p → Says y q → SameParams p q → IsPlain p → IsPlain q → IsDifference p q t → out ≡ lines_of t → IsAnswer files new old out
-answer-of files after new old nt ot x y p q t out h e k u v m n s a b d l =
+pub answer-of : (visit : Visit) (after : Option Files) (new old nt ot x y : List ℕ) (p q : Proc) (t : ℤ) (out : List ℕ)
+    → visit.GaveBoth new old nt ot → IsTextOf visit.files new text_limit nt → after ≡ visit.files → IsTextOf after old text_limit ot
+    → x ≡ nt → y ≡ ot → Says x p → Says y q → SameParams p q → IsPlain p → IsPlain q → IsDifference p q t → out ≡ lines_of t → IsAnswer visit new old out
+answer-of visit after new old nt ot x y p q t out w h e k u v m n s a b d l =
     let i : _ = cost_of p.body a in
     let j : _ = cost_of q.body b in
     record {
       new_text = nt;
       old_text = ot;
+      given = w;
       new_read = h;
       old_read = subst (λ f. IsTextOf f old text_limit ot) e k;
       pair = record {
         new = p;
         old = q;
-        new_said = subst (λ w. Says w p) u m;
-        old_said = subst (λ w. Says w q) v n;
+        new_said = subst (λ z. Says z p) u m;
+        old_said = subst (λ z. Says z q) v n;
         agree = s;
         new_plain = a;
         old_plain = b;

@@ -2,7 +2,7 @@
 use Rattle.std.specs.Prelude.{◌≡◌, ℕ, List, ◌++◌, Some, ℤ, pos, ◌-ℤ◌, codes}
 use Rattle.std.specs.declared.option.Option.{Option}
 use Rattle.std.specs.Fmt.{signed_decimal}
-use Rattle.dc_host.specs.Outside.{Files, IsTextOf, appended}
+use Rattle.dc_host.specs.Outside.{IsTextOf, appended}
 use Rattle.dc_syntax.specs.declared.tree.Proc.{Proc}
 use Rattle.dc_syntax.specs.Value.{State}
 use Rattle.dc_syntax.specs.Costs.{Costs}
@@ -11,10 +11,7 @@ use Rattle.dc_syntax.specs.Plain.{HasPlainCost, IsPlain}
 use Rattle.dc_parse.specs.Outcomes.{says}
 use Rattle.dc_parse.specs.Answers.{SourceOutcome}
 use Rattle.dc_cli.specs.Words.{names_in}
-
--- how many bytes a source has at most; one more is fetched, so that a longer one shows
-abbrev pub text_limit : ℕ
-text_limit = 65536
+use Rattle.dc_cli.specs.Visits.{Visit, text_limit}
 
 -- the two lines that are printed for a threshold
 abbrev pub lines_of : ℤ → List ℕ
@@ -50,17 +47,18 @@ pub record IsPlainPair (x y : List ℕ) : Type 0 where
   pub old_plain : IsPlain old
 
 -- the output that is due for the sources of two names, whose texts were handed out
-pub record IsAnswer (files : Option Files) (new old : List ℕ) (output : List ℕ) : Type 0 where
+pub record IsAnswer (visit : Visit) (new old : List ℕ) (output : List ℕ) : Type 0 where
   pub new_text : List ℕ
   pub old_text : List ℕ
-  pub new_read : IsTextOf files new text_limit new_text
-  pub old_read : IsTextOf files old text_limit old_text
+  pub given : visit.GaveBoth new old new_text old_text
+  pub new_read : IsTextOf visit.files new text_limit new_text
+  pub old_read : IsTextOf visit.files old text_limit old_text
   pub pair : IsPlainPair new_text old_text
   pub t : ℤ
   pub threshold : IsThreshold pair.new pair.old t
   pub lines : output ≡ lines_of t
 
 -- the output that is due was appended
-abbrev pub Succeeds : List (List ℕ) → Option Files → Option (List ℕ) → Option (List ℕ) → Type 0
-Succeeds words files before after =
-    (new old output : List ℕ) × (names_in words ≡ Some (new, old)) × IsAnswer files new old output × (after ≡ appended before output)
+abbrev pub Succeeds : List (List ℕ) → Visit → Option (List ℕ) → Option (List ℕ) → Type 0
+Succeeds words visit before after =
+    (new old output : List ℕ) × (names_in words ≡ Some (new, old)) × IsAnswer visit new old output × (after ≡ appended before output)

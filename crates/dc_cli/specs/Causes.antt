@@ -7,7 +7,7 @@ use Rattle.dc_syntax.specs.declared.tree.Proc.{Proc}
 use Rattle.dc_syntax.specs.declared.tree.Side.{Side}
 use Rattle.dc_syntax.specs.declared.tree.Side.TheVariants.{New, Old}
 use Rattle.dc_syntax.specs.Plain.{IsPlain}
-use Rattle.dc_descent.specs.declared.fault.Kind.TheVariants as k
+use Rattle.dc_parse.specs.declared.fault.Kind.TheVariants as k
 use Rattle.dc_parse.specs.Answers.{SourceOutcome}
 use Rattle.dc_parse.specs.Answers.{IsRefusal as IsTold}
 use Rattle.dc_parse.specs.declared.parse.ParseFault.{ParseFault}
@@ -16,7 +16,8 @@ use Rattle.dc_cli.specs.declared.refusal.Wrong.TheVariants.{Parse, ParametersDif
 use Rattle.dc_cli.specs.declared.refusal.Refusal.{Refusal}
 use Rattle.dc_cli.specs.declared.refusal.Refusal.TheVariants.{Usage, Unread, Source, Unwritten, NoMemory}
 use Rattle.dc_cli.specs.Words.{names_in}
-use Rattle.dc_cli.specs.Answer.{text_limit, Says, SameParams, IsAnswer}
+use Rattle.dc_cli.specs.Visits.{Visit, text_limit}
+use Rattle.dc_cli.specs.Answer.{Says, SameParams, IsAnswer}
 
 -- a text was handed out for a name
 abbrev pub IsHandedOut : Option Files → List ℕ → Type 0
@@ -26,11 +27,11 @@ IsHandedOut files name = (text : List ℕ) × IsTextOf files name text_limit tex
 abbrev pub IsUnread : Option Files → List ℕ → ℕ → ℕ → Type 0
 IsUnread files name before now = Rose before now ⊎ IsAbsent files name
 
--- the first of two names whose text was not handed out
-abbrev pub IsFirstUnread : Option Files → List ℕ → List ℕ → List ℕ → ℕ → ℕ → Type 0
-IsFirstUnread files new old name before now =
-    ((name ≡ new) × IsUnread files new before now)
-    ⊎ ((name ≡ old) × IsHandedOut files new × IsUnread files old before now)
+-- the first of two names whose text was not handed out, by the order of the calls and by the files and the faults
+pub record IsFirstUnread (visit : Visit) (new old name : List ℕ) : Type 0 where
+  pub stopped : visit.StoppedAt new old name
+  pub cause : ((name ≡ new) × IsUnread visit.files new visit.faults visit.later)
+      ⊎ ((name ≡ old) × IsHandedOut visit.files new × IsUnread visit.files old visit.faults visit.later)
 
 -- the fault of a text, other than want of memory
 pub record IsFaultOf (text : List ℕ) (fault : ParseFault) : Type 0 where
@@ -46,27 +47,28 @@ IsFirstFault New x y NotPlain = (p : Proc) × (q : Proc) × Says x p × Says y q
 IsFirstFault Old x y NotPlain = (p : Proc) × (q : Proc) × Says x p × Says y q × SameParams p q × IsPlain p × (IsPlain q → ⊥)
 
 -- both texts were handed out, and this is wrong first, with that of `side`
-pub record IsFaulty (files : Option Files) (new old : List ℕ) (side : Side) (wrong : Wrong) : Type 0 where
+pub record IsFaulty (visit : Visit) (new old : List ℕ) (side : Side) (wrong : Wrong) : Type 0 where
   pub new_text : List ℕ
   pub old_text : List ℕ
-  pub new_read : IsTextOf files new text_limit new_text
-  pub old_read : IsTextOf files old text_limit old_text
+  pub given : visit.GaveBoth new old new_text old_text
+  pub new_read : IsTextOf visit.files new text_limit new_text
+  pub old_read : IsTextOf visit.files old text_limit old_text
   pub first : IsFirstFault side new_text old_text wrong
 
 -- what a refusal before the first write says of the words and the store
-abbrev pub Refused : List (List ℕ) → Option Files → ℕ → ℕ → Refusal → Type 0
-Refused words files before now Usage = names_in words ≡ None
-Refused words files before now (Unread name) =
-    (new old : List ℕ) × (names_in words ≡ Some (new, old)) × IsFirstUnread files new old (string_bytes name) before now
-Refused words files before now (Source side wrong) =
-    (new old : List ℕ) × (names_in words ≡ Some (new, old)) × IsFaulty files new old side wrong
-Refused words files before now Unwritten = ⊥
-Refused words files before now NoMemory = Unit {0}
+abbrev pub Refused : List (List ℕ) → Visit → Refusal → Type 0
+Refused words visit Usage = names_in words ≡ None
+Refused words visit (Unread name) =
+    (new old : List ℕ) × (names_in words ≡ Some (new, old)) × IsFirstUnread visit new old (string_bytes name)
+Refused words visit (Source side wrong) =
+    (new old : List ℕ) × (names_in words ≡ Some (new, old)) × IsFaulty visit new old side wrong
+Refused words visit Unwritten = ⊥
+Refused words visit NoMemory = Unit {0}
 
 -- a proper prefix of the output that is due was appended, and the faults rose
-abbrev pub IsCut : List (List ℕ) → Option Files → Option (List ℕ) → Option (List ℕ) → ℕ → ℕ → Type 0
-IsCut words files before after faults later =
-    (new old output : List ℕ) × (k : ℕ) × (names_in words ≡ Some (new, old)) × IsAnswer files new old output
+abbrev pub IsCut : List (List ℕ) → Visit → Option (List ℕ) → Option (List ℕ) → ℕ → ℕ → Type 0
+IsCut words visit before after faults later =
+    (new old output : List ℕ) × (k : ℕ) × (names_in words ≡ Some (new, old)) × IsAnswer visit new old output
     × (k < length output) × (after ≡ appended before (take k output)) × Rose faults later
 
 -- the name of a file that was not handed out, or want of memory for it
@@ -75,11 +77,11 @@ IsUnreadOf name NoMemory = Unit {0}
 IsUnreadOf name (Unread at) = string_bytes at ≡ name
 IsUnreadOf name _ = ⊥
 
--- what a step refuses that fetches the text of a name
-abbrev pub Unfetched : Option Files → List ℕ → ℕ → ℕ → Refusal → Type 0
-Unfetched files name before now NoMemory = Unit {0}
-Unfetched files name before now (Unread at) = (string_bytes at ≡ name) × IsUnread files name before now
-Unfetched files name before now _ = ⊥
+-- what a step refuses that asked for the text of a name, where `Denied` says that it was not handed out
+abbrev pub Unfetched : Option Files → Type 0 → List ℕ → ℕ → ℕ → Refusal → Type 0
+Unfetched files Denied name before now NoMemory = Unit {0}
+Unfetched files Denied name before now (Unread at) = (string_bytes at ≡ name) × Denied × IsUnread files name before now
+Unfetched files Denied name before now _ = ⊥
 
 -- what a step refuses that reads the text of a side
 abbrev pub Unparsed : Side → List ℕ → Refusal → Type 0

@@ -3,7 +3,8 @@ use Rattle.std.specs.Prelude.{◌≡◌, ◌⊎◌, ℕ, List, Some, None}
 use Rattle.std.specs.declared.option.Option.{Option}
 use Rattle.dc_host.specs.Outside.{Files, IsTextOf, IsAbsent}
 use Rattle.dc_cli.specs.Words.{names_in}
-use Rattle.dc_cli.specs.Answer.{text_limit, IsPlainPair}
+use Rattle.dc_cli.specs.Visits.{text_limit}
+use Rattle.dc_cli.specs.Answer.{IsPlainPair}
 
 -- the files are told, and hand out this text for a name
 abbrev pub Tells : Option Files → List ℕ → List ℕ → Type 0

@@ -1,4 +1,5 @@
 pub mod Words
+pub mod Visits
 pub mod Answer
 pub mod Causes
 pub mod Due

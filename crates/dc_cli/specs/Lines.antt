@@ -4,8 +4,8 @@ use Rattle.std.specs.Fmt.{decimal}
 use Rattle.std.specs.String.{string_bytes}
 use Rattle.dc_syntax.specs.declared.tree.Side.{Side}
 use Rattle.dc_syntax.specs.declared.tree.Side.TheVariants.{New, Old}
-use Rattle.dc_descent.specs.declared.fault.Kind.{Kind}
-use Rattle.dc_descent.specs.declared.fault.Kind.TheVariants as k
+use Rattle.dc_parse.specs.declared.fault.Kind.{Kind}
+use Rattle.dc_parse.specs.declared.fault.Kind.TheVariants as k
 use Rattle.dc_cli.specs.declared.refusal.Wrong.{Wrong}
 use Rattle.dc_cli.specs.declared.refusal.Wrong.TheVariants.{Parse, ParametersDiffer, NotPlain}
 use Rattle.dc_cli.specs.declared.refusal.Refusal.{Refusal}
@@ -19,7 +19,7 @@ status_of Unwritten = 9
 status_of NoMemory = 10
 
 unfoldable pub usage_text : List ℕ
-usage_text = codes "usage: diffcost analyse NEW OLD [--when TEXT] [--degree 0..3] [--products 1..3] [--rows intervals|pairs] [--pivots 1..1000000]\nusage: diffcost check NEW OLD CERT [--when TEXT]\nusage: diffcost sample SEED COUNT\n"
+usage_text = codes "usage: diffcost analyse NEW OLD\n"
 
 abbrev pub unread_text : List ℕ → List ℕ
 unread_text name = codes "read fault: " ++ (name ++ codes "\n")

@@ -2,9 +2,10 @@
 use Rattle.std.specs.Prelude.{◌≡◌, ◌⊎◌, ℕ, ◌<◌, List, Ok, Err, length, take, codes}
 use Rattle.std.specs.declared.option.Option.{Option}
 use Rattle.std.specs.declared.result.Result.{Result}
-use Rattle.dc_host.specs.Outside.{Files, Rose, appended}
+use Rattle.dc_host.specs.Outside.{Rose, appended}
 use Rattle.dc_cli.specs.declared.refusal.Refusal.{Refusal}
 use Rattle.dc_cli.specs.declared.refusal.Refusal.TheVariants.{Unread, Source, Unwritten}
+use Rattle.dc_cli.specs.Visits.{Visit}
 use Rattle.dc_cli.specs.Answer.{Succeeds}
 use Rattle.dc_cli.specs.Causes.{Refused, IsCut}
 use Rattle.dc_cli.specs.Lines.{status_of, line_of}
@@ -26,19 +27,19 @@ Reported refusal said status =
     ((status ≡ status_of refusal) × said (line_of refusal)) ⊎ (IsBuilt refusal × (status ≡ 10) × said (codes "no memory\n"))
 
 -- what each refusal says of the words, the store and the output
-abbrev pub Holds : List (List ℕ) → Option Files → ℕ → ℕ → Option (List ℕ) → Option (List ℕ) → ℕ → ℕ → Refusal → Type 0
-Holds words files before now written after faults later Unwritten = IsCut words files written after faults later
-Holds words files before now written after faults later refusal = Refused words files before now refusal
+abbrev pub Holds : List (List ℕ) → Visit → Option (List ℕ) → Option (List ℕ) → ℕ → ℕ → Refusal → Type 0
+Holds words visit written after faults later Unwritten = IsCut words visit written after faults later
+Holds words visit written after faults later refusal = Refused words visit refusal
 
 -- the status is that of a refusal that holds, and its line was said
-abbrev pub IsRefusal : List (List ℕ) → Option Files → ℕ → ℕ → Option (List ℕ) → Option (List ℕ) → ℕ → ℕ → (List ℕ → Type 0) → ℕ → Type 0
-IsRefusal words files before now written after faults later said status =
-    (refusal : Refusal) × (status ≡ status_of refusal) × Holds words files before now written after faults later refusal × said (line_of refusal)
+abbrev pub IsRefusal : List (List ℕ) → Visit → Option (List ℕ) → Option (List ℕ) → ℕ → ℕ → (List ℕ → Type 0) → ℕ → Type 0
+IsRefusal words visit written after faults later said status =
+    (refusal : Refusal) × (status ≡ status_of refusal) × Holds words visit written after faults later refusal × said (line_of refusal)
 
 -- how an attempt to write the output ends
-abbrev pub Written : List (List ℕ) → Option Files → ℕ → ℕ → Option (List ℕ) → Option (List ℕ) → ℕ → ℕ → Result (Unit {0}) Refusal → Type 0
-Written words files before now written after faults later (Ok _) = Succeeds words files written after
-Written words files before now written after faults later (Err refusal) = Holds words files before now written after faults later refusal
+abbrev pub Written : List (List ℕ) → Visit → Option (List ℕ) → Option (List ℕ) → ℕ → ℕ → Result (Unit {0}) Refusal → Type 0
+Written words visit written after faults later (Ok _) = Succeeds words visit written after
+Written words visit written after faults later (Err refusal) = Holds words visit written after faults later refusal
 
 -- a refusal that comes before the first write
 abbrev pub IsEarly : Refusal → Type 0

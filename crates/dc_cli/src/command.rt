@@ -2,6 +2,7 @@
 ghost use Rattle.std.specs.Prelude.{◌≡◌, ◌≢◌, ◌⊎◌, ℕ, ◌≤◌, Some, None, IfErr, map};
 ghost use Rattle.std.specs.String.{string_bytes};
 ghost use Rattle.dc_cli.specs.Words.{names_in as names_of};
+ghost use Rattle.dc_cli.specs.Visits.{visit_of};
 ghost use Rattle.dc_cli.specs.Answer.{Succeeds};
 ghost use Rattle.dc_host.specs.Outside.{Rose};
 ghost use Rattle.dc_cli.specs.Due.{IsMissing, HasFault, HasAnswer};
@@ -19,10 +20,11 @@ use std::alloc::Global;
 ///
 /// The whole output is built before the first write. With status 0 `out` has gained the lines
 /// `threshold t` and `whole t`, and every finished run of the new program costs exactly t more than
-/// every finished run of the old one. Every other status has its line on `err`:
+/// every finished run of the old one on the same input, where the programs are those of the texts that
+/// the store handed out for NEW and then for OLD. Every other status has its line on `err`:
 ///
 /// - 3, the usage: the words are no command;
-/// - 8, `read fault: NAME`: the file was not handed out, the new one before the old one;
+/// - 8, `read fault: NAME`: the store handed out no text for NEW, or one for NEW and then none for OLD: NAME is the one that it did not hand out;
 /// - 4, `source fault: SIDE L:C KIND`: the text says no program, the new one before the old one; then `old 1:1 ParametersDiffer`; then
 ///   `SIDE 1:1 NotPlain`, the new one before the old one;
 /// - 9, `write fault`: `out` has gained a proper prefix of the output alone;
@@ -36,8 +38,8 @@ pub fn top<S: Store, O: Sink, E: Sink>(
     out: &mut O,
     err: &mut E,
 ) -> u8
-    ensures threshold { result ≡ 0 → Succeeds (map string_bytes words.now.items) (S.files store.old) (O.written out.old) (O.written out.new) }
-    ensures refused { result ≢ 0 → IsRefusal (map string_bytes words.now.items) (S.files store.old) (S.faults store.old) (S.faults store.new) (O.written out.old) (O.written out.new) (O.faults out.old) (O.faults out.new) (Said (E.written err.old) (E.written err.new) (E.faults err.old) (E.faults err.new)) result }
+    ensures threshold { result ≡ 0 → Succeeds (map string_bytes words.now.items) (visit_of S.files S.faults S.call store.old store.new) (O.written out.old) (O.written out.new) }
+    ensures refused { result ≢ 0 → IsRefusal (map string_bytes words.now.items) (visit_of S.files S.faults S.call store.old store.new) (O.written out.old) (O.written out.new) (O.faults out.old) (O.faults out.new) (Said (E.written err.old) (E.written err.new) (E.faults err.old) (E.faults err.new)) result }
     ensures usage { names_of (map string_bytes words.now.items) ≡ None → (result ≡ 3) ⊎ (result ≡ 10) }
     ensures missing { IsMissing (map string_bytes words.now.items) (S.files store.old) → (result ≡ 8) ⊎ (result ≡ 10) }
     ensures faulty { HasFault (map string_bytes words.now.items) (S.files store.old) → ¬ Rose (S.faults store.old) (S.faults store.new) → (result ≡ 4) ⊎ (result ≡ 10) }
@@ -60,7 +62,7 @@ fn written<S: Store, O: Sink>(
     store: &mut S,
     out: &mut O,
 ) -> Result<(), Refusal>
-    ensures ends { Written (map string_bytes words.now.items) (S.files store.old) (S.faults store.old) (S.faults store.new) (O.written out.old) (O.written out.new) (O.faults out.old) (O.faults out.new) result }
+    ensures ends { Written (map string_bytes words.now.items) (visit_of S.files S.faults S.call store.old store.new) (O.written out.old) (O.written out.new) (O.faults out.old) (O.faults out.new) result }
     ensures untouched { IfErr result (λ r. IsEarly r → out.new ≡ out.old) }
     ensures files { S.files store.new ≡ S.files store.old }
     ensures store_later { S.faults store.old ≤ S.faults store.new }

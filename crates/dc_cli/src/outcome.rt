@@ -1,10 +1,11 @@
 //! From the words to the output.
-ghost use Rattle.std.specs.Prelude.{◌≡◌, ℕ, ◌≤◌, List, Some, None, pos, ◌-ℤ◌, map, IfOk, IfErr, OnOk, IsErrOf};
+ghost use Rattle.std.specs.Prelude.{◌≡◌, ℕ, ◌≤◌, List, Some, None, pos, ◌-ℤ◌, map, IfOk, IfErr, OnOk};
 ghost use Rattle.std.specs.String.{string_bytes};
 ghost use Rattle.dc_syntax.specs.Plain.{plain_cost, IsPlain};
 ghost use Rattle.dc_host.specs.Outside.{IsTextOf};
 ghost use Rattle.dc_cli.specs.Words.{names_in as names_of};
-ghost use Rattle.dc_cli.specs.Answer.{text_limit, lines_of, Says, SameParams, IsAnswer};
+ghost use Rattle.dc_cli.specs.Visits.{text_limit, visit_of, Gives, Denies};
+ghost use Rattle.dc_cli.specs.Answer.{lines_of, Says, SameParams, IsAnswer};
 ghost use Rattle.dc_cli.specs.Causes.{IsUnreadOf, Unfetched, Unparsed, Unpaired, Refused};
 
 use crate::cost::cost_of;
@@ -25,8 +26,8 @@ pub fn answer<S: Store>(
 ) -> Result<String, Refusal>
     ensures files { S.files store.new ≡ S.files store.old }
     ensures later { S.faults store.old ≤ S.faults store.new }
-    ensures ok { IfOk result (λ text. (new old : List ℕ) × (names_of (map string_bytes words.now.items) ≡ Some (new, old)) × IsAnswer (S.files store.old) new old (string_bytes text)) }
-    ensures refused { IfErr result (Refused (map string_bytes words.now.items) (S.files store.old) (S.faults store.old) (S.faults store.new)) }
+    ensures ok { IfOk result (λ text. (new old : List ℕ) × (names_of (map string_bytes words.now.items) ≡ Some (new, old)) × IsAnswer (visit_of S.files S.faults S.call store.old store.new) new old (string_bytes text)) }
+    ensures refused { IfErr result (Refused (map string_bytes words.now.items) (visit_of S.files S.faults S.call store.old store.new)) }
 {
     let Some((new, old)) = names_in(words) else {
         return Err(Refusal::Usage);
@@ -47,7 +48,8 @@ fn fetch_text<S: Store>(alloc: Global, store: &mut S, name: &str) -> Result<Vec<
     ensures files { S.files store.new ≡ S.files store.old }
     ensures later { S.faults store.old ≤ S.faults store.new }
     ensures ok { IfOk result (λ v. IsTextOf (S.files store.old) name.now text_limit v.items) }
-    ensures refused { IfErr result (Unfetched (S.files store.old) name.now (S.faults store.old) (S.faults store.new)) }
+    ensures gives { IfOk result (λ v. Gives S.call store.old store.new name.now v.items) }
+    ensures refused { IfErr result (Unfetched (S.files store.old) (Denies S.call store.old store.new name.now) name.now (S.faults store.old) (S.faults store.new)) }
 {
     match store.fetch(alloc, name, TEXT_LIMIT) {
         Ok(bytes) => Ok(bytes),

@@ -120,5 +120,5 @@ fn kind_word(kind: Kind) -> &'static str
 fn usage() -> &'static str
     ensures { result.now ≡ usage_text }
 {
-    "usage: diffcost analyse NEW OLD [--when TEXT] [--degree 0..3] [--products 1..3] [--rows intervals|pairs] [--pivots 1..1000000]\nusage: diffcost check NEW OLD CERT [--when TEXT]\nusage: diffcost sample SEED COUNT\n"
+    "usage: diffcost analyse NEW OLD\n"
 }

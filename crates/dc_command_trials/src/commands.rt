@@ -4,7 +4,7 @@ use dc_host::{MemSink, MemStore};
 use std::alloc::{AllocError, Global};
 
 const USAGE: &str =
-    "usage: diffcost analyse NEW OLD [--when TEXT] [--degree 0..3] [--products 1..3] [--rows intervals|pairs] [--pivots 1..1000000]\nusage: diffcost check NEW OLD CERT [--when TEXT]\nusage: diffcost sample SEED COUNT\n";
+    "usage: diffcost analyse NEW OLD\n";
 
 fn words_of(alloc: Global, line: &str) -> Result<Vec<String>, AllocError> {
     let mut words = Vec::new(alloc);

@@ -3,18 +3,11 @@ ghost use Rattle.std.specs.Prelude.{◌≡◌};
 ghost use Rattle.dc_descent.specs.Wants.{want};
 
 use std::alloc::AllocError;
+use thiserror::Error;
 
-/// Why a text is refused.
+/// What is wrong with the tokens or the names of a text.
 #[derive(Clone, Copy, Debug, PartialEq)]
 pub enum Kind {
-    /// The text has more than 65,536 bytes.
-    TooLong,
-    /// A byte of 128 or more.
-    NotAscii,
-    /// A byte that begins no token.
-    BadCharacter,
-    /// A number above 2147483647.
-    LiteralTooWide,
     /// A token with which no text of the grammar goes on.
     Unexpected,
     /// The text ends too soon.
@@ -27,20 +20,13 @@ pub enum Kind {
     NameTwice,
     /// A name is used that isn't declared.
     UnknownName,
-    /// A form that must be affine has degree 2.
-    NotAffine,
-    /// A form has a degree above 2.
-    DegreeTooHigh,
-    /// A coefficient of a form passes 2147483647 in size.
-    CoefficientRange,
-    /// A condition has more than 64 conjunctions.
-    ConditionTooWide,
     /// Memory ran out.
     NoMemory,
 }
 
-/// Why a text is refused, and the byte at which.
-#[derive(Clone, Copy, Debug)]
+/// What is wrong first with the tokens or the names of a text, and the byte at which.
+#[derive(Clone, Copy, Debug, Error)]
+#[error("the text is refused")]
 pub struct Fault {
     pub kind: Kind,
     pub at: usize,

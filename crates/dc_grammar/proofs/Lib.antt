@@ -4,11 +4,9 @@ pub mod Done
 pub mod Complete
 pub mod AllKinds
 pub mod Texts
-pub mod PlainReader
 pub mod LanguageReader
 pub mod Alone
 pub mod Total
 pub mod Verdicts
 pub mod Right
 pub mod Deepening
-pub mod PlainInLanguage

@@ -1,7 +1,6 @@
 pub mod Grammar
 pub mod Kinds
 pub mod Language
-pub mod Plain
 pub mod Reading
 pub mod Lookahead
 pub mod Readers

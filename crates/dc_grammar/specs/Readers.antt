@@ -1,13 +1,10 @@
--- What the readers of both grammars know of each name.
+-- What the reader of the language knows of each name.
 use Rattle.std.specs.Prelude.{false, List, [], ◌∷◌}
 use Rattle.dc_tokens.specs.declared.token.TokenKind.{TokenKind}
 use Rattle.dc_tokens.specs.declared.token.TokenKind.TheVariants as k
 use Rattle.dc_tokens.specs.declared.token.Token.{Token}
 use Rattle.dc_grammar.specs.Reading.{Reader}
 use Rattle.dc_grammar.specs.Language as lang
-use Rattle.dc_grammar.specs.Plain as plain
-
--- ---- the whole language
 
 abbrev pub begins_expr : List TokenKind
 begins_expr = k.Minus ∷ k.Number ∷ k.Name ∷ k.LParen ∷ []
@@ -57,16 +54,3 @@ follow_of lang.fact = after_fact
 
 abbrev pub language_reader : Reader TokenKind lang.Name Token
 language_reader = record { grammar = lang.language; empty = λ x. false; begins = begins_of; follow = follow_of }
-
--- ---- plain texts
-
-abbrev pub plain_begins : plain.Name → List TokenKind
-plain_begins plain.source = k.Proc ∷ []
-plain_begins plain.stmt = k.Skip ∷ k.Tick ∷ []
-
-abbrev pub plain_follow : plain.Name → List TokenKind
-plain_follow plain.source = []
-plain_follow plain.stmt = k.RBrace ∷ k.Skip ∷ k.Tick ∷ []
-
-abbrev pub plain_reader : Reader TokenKind plain.Name Token
-plain_reader = record { grammar = plain.plain; empty = λ x. false; begins = plain_begins; follow = plain_follow }

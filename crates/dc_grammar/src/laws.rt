@@ -1,11 +1,10 @@
-//! Laws of the grammars.
+//! Laws of the grammar.
 ghost use Rattle.dc_grammar.specs.Depth.{IsDeep};
 ghost use Rattle.dc_grammar.specs.Language.{language};
 ghost use Rattle.dc_grammar.specs.Laws.{ReadsRight};
 ghost use Rattle.dc_grammar.specs.Lookahead.{LooksAhead};
-ghost use Rattle.dc_grammar.specs.Plain.{plain};
-ghost use Rattle.dc_grammar.specs.Readers.{language_reader, plain_reader};
-ghost use Rattle.dc_grammar.specs.Trees.{HasOneTree, PlainIsLanguage};
+ghost use Rattle.dc_grammar.specs.Readers.{language_reader};
+ghost use Rattle.dc_grammar.specs.Trees.{HasOneTree};
 ghost use Rattle.dc_grammar.specs.Verdicts.{HasOneVerdict};
 
 use dc_tokens::Token;
@@ -15,20 +14,10 @@ pub fn language_looks_ahead()
     ensures { LooksAhead language_reader }
 {}
 
-/// The reader of plain texts needs to look one token ahead, and no more.
-pub fn plain_looks_ahead()
-    ensures { LooksAhead plain_reader }
-{}
-
 /// The reader of the whole language reads right: it answers once, what it reads is a text, a text is read whole, and where it stops is the first
 /// token with which no text goes on.
 pub fn language_reads_right()
     ensures { ReadsRight language_reader }
-{}
-
-/// The reader of plain texts reads right.
-pub fn plain_reads_right()
-    ensures { ReadsRight plain_reader }
 {}
 
 /// Each name of the grammar of the language derives the tokens in one way at most.
@@ -38,23 +27,9 @@ pub fn one_language_tree(tokens: &[Token])
     let _ = tokens;
 }
 
-/// Each name of the grammar of plain texts derives the tokens in one way at most.
-pub fn one_plain_tree(tokens: &[Token])
-    ensures { HasOneTree plain tokens.now }
-{
-    let _ = tokens;
-}
-
 /// For each name of the grammar of the language the tokens have one verdict: their tree, or what is wrong first.
 pub fn one_language_verdict(tokens: &[Token])
     ensures { HasOneVerdict language IsDeep tokens.now }
-{
-    let _ = tokens;
-}
-
-/// A plain text is a text of the language.
-pub fn plain_is_language(tokens: &[Token])
-    ensures { PlainIsLanguage tokens.now }
 {
     let _ = tokens;
 }

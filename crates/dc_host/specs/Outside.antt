@@ -2,6 +2,8 @@
 use Rattle.std.specs.Prelude.{◌≡◌, ℕ, ◌+◌, ◌-◌, ◌^◌, ◌≤◌, ◌==◌, min, List, ◌++◌, take, Bool, None, Some, Ok, Err}
 use Rattle.std.specs.List.{list_any}
 use Rattle.std.specs.Option.{option_map}
+use Rattle.std.specs.declared.alloc.Global.{Global}
+use Rattle.std.specs.declared.vec.Vec.{Vec}
 use Rattle.std.specs.declared.option.Option.{Option}
 use Rattle.std.specs.declared.result.Result.{Result}
 use Rattle.dc_host.specs.declared.store.StoreFault.{StoreFault}
@@ -14,6 +16,10 @@ counted n = min (n + 1) (2 ^ 64 - 1)
 -- a count rose in a call, or stands at its last value
 abbrev pub Rose : ℕ → ℕ → Type 0
 Rose before now = counted before ≤ now
+
+-- what a call of `fetch` answers
+abbrev pub Answer : Type 0
+Answer = Result (Vec ℕ Global) StoreFault
 
 -- the count after a call of `fetch` that counts each answer `Failed`, and no other
 abbrev pub faults_after : {T : Type 0} → Result T StoreFault → ℕ → ℕ

@@ -75,6 +75,8 @@ impl Store for MemStore {
 
     ghost faults = { λ s. (shelf_of s).faults };
 
+    ghost call = { λ before name limit answer after. IsFetched (shelf_of before) name limit answer };
+
     fn fetch(&mut self, alloc: Global, name: &str, limit: usize) -> Result<Vec<u8>, StoreFault>
         requires { limit < 2 ^ 64 - 1 }
         // A listed call fails. Another one hands out the file, or says that it is missing.

@@ -1,5 +1,5 @@
-ghost use Rattle.std.specs.Prelude.{◌≡◌, ℕ, ◌+◌, ◌-◌, ◌^◌, ◌<◌, ◌≤◌, Option, IfOk, IsErrOf};
-ghost use Rattle.dc_host.specs.Outside.{Rose, Files, IsTextOf, IsAbsent};
+ghost use Rattle.std.specs.Prelude.{◌≡◌, ℕ, ◌+◌, ◌-◌, ◌^◌, ◌<◌, ◌≤◌, List, Option, IfOk, IsErrOf};
+ghost use Rattle.dc_host.specs.Outside.{Rose, Files, Answer, IsTextOf, IsAbsent};
 
 use std::alloc::Global;
 use thiserror::Error;
@@ -20,13 +20,17 @@ pub enum StoreFault {
 
 /// Where texts come from.
 ///
-/// A store has two meanings that contracts can name: its files, where it tells them, and a count
-/// of faults that never falls.
+/// A store has three meanings that contracts can name: its files, where it tells them, a count of
+/// faults that never falls, and which calls it answers how. Code over any store knows of the last
+/// only what it called, so a contract can say which names were asked for, in which order, and what
+/// was answered, also over a store that tells no files.
 pub trait Store {
     // The files, where they are told.
     ghost files: { Self → Option Files };
     // The faults so far.
     ghost faults: { Self → ℕ };
+    // One call of `fetch`: the store before it, the name, the limit, the answer, the store after it.
+    ghost call: { Self → List ℕ → ℕ → Answer → Self → Type 0 };
 
     /// Hands out the first `limit + 1` bytes of a file, or all of it where it is shorter.
     ///
@@ -39,6 +43,7 @@ pub trait Store {
     fn fetch(&mut self, alloc: Global, name: &str, limit: usize) -> Result<Vec<u8>, StoreFault>
         requires { limit < 2 ^ 64 - 1 }
         ensures files { files self.new ≡ files self.old }
+        ensures call { call self.old name.now limit result self.new }
         ensures text { IfOk result (λ v. IsTextOf (files self.old) name.now limit v.items) }
         ensures later { faults self.old ≤ faults self.new }
         ensures failed { IsErrOf result StoreFault.Failed → Rose (faults self.old) (faults self.new) }

@@ -35,9 +35,13 @@ impl SureStore {
 }
 
 impl Store for SureStore {
+    ghost use Rattle.dc_host.specs.declared.store.StoreFault.{StoreFault};
+
     ghost files = { λ _. None };
 
     ghost faults = { λ _. 0 };
+
+    ghost call = { λ before name limit answer after. MatchResult answer (λ v. v.items ≡ take (limit + 1) before) (λ e. e ≡ StoreFault.NoMemory) };
 
     /// Hands out the first `limit + 1` bytes of the text, whatever the name is.
     fn fetch(&mut self, alloc: Global, name: &str, limit: usize) -> Result<Vec<u8>, StoreFault>

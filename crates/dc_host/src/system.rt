@@ -1,10 +1,12 @@
-//! The real files and streams, whose content no contract tells.
-ghost use Rattle.std.specs.Prelude.{◌≡◌, ◌+◌, ◌-◌, ◌^◌, ◌<◌, ◌≤◌, length, IfOk, IsOkAnd, IsErrOf, None, ⊤};
+//! The real files and streams. What they hold no contract tells; what is done with the bytes that they hand over and take is proved.
+ghost use Rattle.std.specs.Prelude.{◌≡◌, ◌≢◌, ◌+◌, ◌-◌, ◌^◌, ◌<◌, ◌≤◌, length, take, IfOk, IfSome, IsOkAnd, IsErrOf, None, ⊤};
 ghost use Rattle.dc_host.specs.Outside.{Rose, IsTextOf, faults_after, count_after};
+ghost use Rattle.std.specs.Io.KnownBytes.{WriteAppends};
+ghost use Rattle.std.specs.IoError.{error_kind};
 
 use crate::{Sink, SinkFailed, Store, StoreFault};
 use std::alloc::Global;
-use std::io::{Read, Write};
+use std::io::{ErrorKind, Read, Write};
 use std::rt::Files;
 use std::{fs, io};
 
@@ -29,6 +31,8 @@ impl<'a, R: Files> Store for FileStore<'a, R> {
 
     ghost faults = { λ s. s.faults };
 
+    ghost call = { λ before name limit answer after. after.faults ≡ faults_after answer before.faults };
+
     fn fetch(&mut self, alloc: Global, name: &str, limit: usize) -> Result<Vec<u8>, StoreFault>
         requires { limit < 2 ^ 64 - 1 }
         ensures short { IfOk result (λ v. length v.items ≤ limit + 1) }
@@ -50,14 +54,19 @@ impl<'a, R: Files> Store for FileStore<'a, R> {
     }
 }
 
-enum Unread {
+/// Why a reader handed out no text.
+#[derive(Debug, Drop)]
+pub enum Unread {
     Failed,
     NoMemory,
 }
 
 // Want of memory in the system is no fault of the file.
-fn cause_of(e: io::Error) -> Unread {
-    if e.kind() == io::ErrorKind::OutOfMemory {
+fn cause_of(e: io::Error) -> Unread
+    ensures memory { error_kind e ≡ ErrorKind.OutOfMemory → result ≡ Unread.NoMemory }
+    ensures other { error_kind e ≢ ErrorKind.OutOfMemory → result ≡ Unread.Failed }
+{
+    if e.kind() == ErrorKind::OutOfMemory {
         Unread::NoMemory
     } else {
         Unread::Failed
@@ -66,7 +75,7 @@ fn cause_of(e: io::Error) -> Unread {
 
 const CHUNK: usize = 4096;
 
-// The first `limit + 1` bytes of a file, or all where it is shorter. Each turn takes at least one.
+// The first `limit + 1` bytes of a file, or all where it is shorter.
 fn read_start<R: Files>(rt: &R, alloc: Global, name: &str, limit: usize) -> Result<Vec<u8>, Unread>
     requires { limit < 2 ^ 64 - 1 }
     ensures { IfOk result (λ v. length v.items ≤ limit + 1) }
@@ -75,6 +84,15 @@ fn read_start<R: Files>(rt: &R, alloc: Global, name: &str, limit: usize) -> Resu
         Ok(file) => file,
         Err(e) => return Err(cause_of(e)),
     };
+    read_from(&mut file, alloc, limit)
+}
+
+/// The first `limit + 1` bytes that a reader has, or all where they are fewer. Each turn takes at least one.
+pub fn read_from<F: Read>(file: &mut F, alloc: Global, limit: usize) -> Result<Vec<u8>, Unread>
+    requires { limit < 2 ^ 64 - 1 }
+    ensures short { IfOk result (λ v. length v.items ≤ limit + 1) }
+    ensures bytes { IfOk result (λ v. IfSome (F.remaining file.old) (λ xs. v.items ≡ take (limit + 1) xs)) }
+{
     let mut text = Vec::new(alloc);
     let mut chunk = [0u8; CHUNK];
     while text.len() <= limit {
@@ -119,6 +137,7 @@ impl<W: Write + Drop> Sink for StdSink<W> {
         ensures some { IfOk result (λ k. 0 < length bytes.now → 0 < k) }
         ensures empty { length bytes.now ≡ 0 → IsOkAnd result (λ k. k ≡ 0) }
         ensures count { self.new.faults ≡ count_after result self.old.faults }
+        ensures bytes { WriteAppends (W.contents self.old.writer) (W.contents self.new.writer) result bytes.now }
         ensures later { self.old.faults ≤ self.new.faults }
     {
         if bytes.is_empty() {

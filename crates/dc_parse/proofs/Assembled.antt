@@ -19,13 +19,19 @@ use Rattle.dc_affine.specs.declared.form.FormFault.TheVariants as g
 use Rattle.dc_affine.specs.Forms.{IsCause}
 use Rattle.dc_affine.specs.Atoms.{dnf_fault, conjunctions_of, cond_is_below}
 use Rattle.dc_program.specs.Limits.{all_limited, cond_literals_fit, cond_operators, cond_is_limited}
-use Rattle.dc_program.specs.Programs.{IsProgram}
-use Rattle.dc_descent.specs.declared.fault.Fault.{Fault}
-use Rattle.dc_descent.specs.declared.fault.Kind.TheVariants as k
+use Rattle.dc_parse.specs.declared.fault.Fault.{Fault}
+use Rattle.dc_parse.specs.declared.fault.Kind.TheVariants as k
 use Rattle.dc_descent.specs.declared.sources.Source.{Source}
-use Rattle.dc_descent.specs.Faults.{fault, declared_fault, used_fault, verdict_fault}
+use Rattle.dc_descent.specs.declared.fault.Kind.TheVariants as low
+use Rattle.dc_descent.specs.declared.fault.Fault.{Fault as DescentFault}
+use Rattle.dc_descent.specs.Faults as descent
+use Rattle.dc_descent.specs.Faults.{declared_fault}
+use Rattle.dc_descent.specs.Sources as sources
+use Rattle.std.specs.declared.option.Option.{Option}
+use Rattle.std.specs.Option.{option_map}
+use Rattle.dc_parse.specs.Faults.{fault, kind_of, raised, names_fault, used_fault, verdict_fault}
 use Rattle.dc_descent.specs.Scopes.{spelled, place_in}
-use Rattle.dc_descent.specs.Sources.{Parts, parts_of, declared, names_of, body_of, names_fault, IsSource}
+use Rattle.dc_descent.specs.Sources.{Parts, parts_of, declared, names_of, body_of, IsSource}
 use Rattle.dc_descent.specs.Statements.{head_at, first_at}
 use Rattle.dc_descent.specs.Trees.{leaves, cond_of}
 use Rattle.dc_descent.proofs.Lists.{derived_leaves}
@@ -36,7 +42,6 @@ use Rattle.dc_parse.specs.Answers.{SourceOutcome, ConditionOutcome}
 use Rattle.dc_parse.proofs.Counted.{Each}
 use Rattle.dc_parse.proofs.Facts.{Known}
 use Rattle.dc_parse.proofs.Naming.{none_both, GoodNames, declared_good, no_names, used_known}
-use Rattle.dc_parse.proofs.Passing.{forms_pass}
 use Rattle.dc_parse.proofs.Shallows.{small_tokens, few_of}
 use Rattle.dc_parse.proofs.Sourced.{Inner, source_body}
 use Rattle.dc_parse.proofs.Tame.{Goods, GoodCond, good_stmts, good_cond}
@@ -62,6 +67,18 @@ pub bad_grammar : {A : Type 0} (x : Name) (judge : Tree Token → Outcome A) (te
 bad_grammar x judge text ts us f l t e (inl h) = inl h
 bad_grammar x judge text ts us f l t e (inr h) = inr (grammar l us (subst (Tokens 0 text) (sym e) t) h.0 h.1 f h.2 refl)
 
+-- ---- faults of the tokens and of the names
+
+pub raised_none : (o : Option DescentFault) → option_map raised o ≡ None → o ≡ None
+raised_none None h = refl
+raised_none (Some f) h = absurd cc
+
+pub raised_found : (x : Name) (ts : List Token) (end : ℕ) (e : DescentFault) (f : Fault) → f ≡ raised e
+    → (e.kind ≡ low.NoMemory) ⊎ ((v : Verdict Token) × Finds language IsDeep x ts v × (descent.verdict_fault ts end v ≡ Some e))
+    → (f.kind ≡ k.NoMemory) ⊎ ((v : Verdict Token) × Finds language IsDeep x ts v × (verdict_fault ts end v ≡ Some f))
+raised_found x ts end e f q (inl h) = inl (ap (λ z. z.kind) q ∙ ap kind_of h)
+raised_found x ts end e f q (inr h) = inr (h.0, h.1, ap (option_map raised) h.2 ∙ ap Some (sym q))
+
 -- ---- sources
 
 pub judged_says : (text : List ℕ) (p : Parts) → names_fault text p ≡ None → forms_fault text p ≡ None → judge_parts text p ≡ says (proc_of text p)
@@ -72,6 +89,23 @@ judged_names text p f n = ap (λ z. first_of z (first_of (forms_fault text p) (s
 
 judged_forms : (text : List ℕ) (p : Parts) (f : Fault) → names_fault text p ≡ None → forms_fault text p ≡ Some f → judge_parts text p ≡ refuses f
 judged_forms text p f n m = ap (λ z. first_of z (first_of (forms_fault text p) (says (proc_of text p)))) n ∙ ap (λ z. first_of z (says (proc_of text p))) m
+
+-- a derivation of tokens that nest not too deep, and whose names have no fault
+module _ (text : List ℕ) (ts : List Token) (a : Tree Token) where
+  pub found_names : names_fault text (parts_of a) ≡ None → GoodNames (names_of text (parts_of a))
+  found_names n =
+      let d : _ = none_both (declared_fault text [] (declared (parts_of a))) (descent.used_fault text (names_of text (parts_of a)) (leaves (parts_of a).body)) (raised_none (sources.names_fault text (parts_of a)) n) in
+      declared_good text [] (declared (parts_of a)) d.0 no_names
+
+  pub found_goods : Tokens 0 text ts → Finds language IsDeep source ts (whole a) → names_fault text (parts_of a) ≡ None → Goods (length (names_of text (parts_of a))) (place_in text (names_of text (parts_of a))) (body_of text (parts_of a))
+  found_goods t f n =
+      let d : _ = none_both (declared_fault text [] (declared (parts_of a))) (descent.used_fault text (names_of text (parts_of a)) (leaves (parts_of a).body)) (raised_none (sources.names_fault text (parts_of a)) n) in
+      let i : Inner a = source_body f.0 (few_of ts f.1) (small_tokens t) in
+      good_stmts (length (names_of text (parts_of a))) (place_in text (names_of text (parts_of a))) i.derived (record {
+        known = subst (Each (Known (length (names_of text (parts_of a))) (place_in text (names_of text (parts_of a))))) (derived_leaves i.derived) (used_known text (names_of text (parts_of a)) (leaves (parts_of a).body) d.1);
+        small = i.small;
+        few = i.few;
+      })
 
 -- a source that was read
 pub record Seen (text : List ℕ) (ts : List Token) (a : Tree Token) (x : Source) : Type 0 where
@@ -86,11 +120,11 @@ pub record Named (text : List ℕ) (ts : List Token) (a : Tree Token) (x : Sourc
   pub good : x.body.fault ≡ None
 
 module _ (text : List ℕ) (ts : List Token) (a : Tree Token) (x : Source) where
-  pub bad_names : Seen text ts a x → (f : Fault) → x.body.fault ≡ Some f → Faulty (SourceOutcome text) f
-  bad_names s f e = inr (tree s.short ts s.spelled a s.found (sym (judged_names text (parts_of a) f (sym s.source.fault ∙ e))))
+  pub bad_names : Seen text ts a x → (f : DescentFault) → x.body.fault ≡ Some f → Faulty (SourceOutcome text) (raised f)
+  bad_names s f e = inr (tree s.short ts s.spelled a s.found (sym (judged_names text (parts_of a) (raised f) (ap (option_map raised) (sym s.source.fault ∙ e)))))
 
   pub names_none : Named text ts a x → names_fault text (parts_of a) ≡ None
-  names_none n = sym n.seen.source.fault ∙ n.good
+  names_none n = ap (option_map raised) (sym n.seen.source.fault ∙ n.good)
 
   same_names : Named text ts a x → x.body.names ≡ names_of text (parts_of a)
   same_names n = n.seen.source.names n.good
@@ -99,19 +133,10 @@ module _ (text : List ℕ) (ts : List Token) (a : Tree Token) (x : Source) where
   same_stmts n = n.seen.source.stmts n.good
 
   pub good_names : Named text ts a x → GoodNames x.body.names
-  good_names n =
-      let d : _ = none_both (declared_fault text [] (declared (parts_of a))) (used_fault text (names_of text (parts_of a)) (leaves (parts_of a).body)) (names_none n) in
-      subst GoodNames (sym (same_names n)) (declared_good text [] (declared (parts_of a)) d.0 no_names)
+  good_names n = subst GoodNames (sym (same_names n)) (found_names text ts a (names_none n))
 
   goods : Named text ts a x → Goods (length (names_of text (parts_of a))) (place_in text (names_of text (parts_of a))) (body_of text (parts_of a))
-  goods n =
-      let d : _ = none_both (declared_fault text [] (declared (parts_of a))) (used_fault text (names_of text (parts_of a)) (leaves (parts_of a).body)) (names_none n) in
-      let i : Inner a = source_body n.seen.found.0 (few_of ts n.seen.found.1) (small_tokens n.seen.spelled) in
-      good_stmts (length (names_of text (parts_of a))) (place_in text (names_of text (parts_of a))) i.derived (record {
-        known = subst (Each (Known (length (names_of text (parts_of a))) (place_in text (names_of text (parts_of a))))) (derived_leaves i.derived) (used_known text (names_of text (parts_of a)) (leaves (parts_of a).body) d.1);
-        small = i.small;
-        few = i.few;
-      })
+  goods n = found_goods text ts a n.seen.spelled n.seen.found (names_none n)
 
   pub source_below : Named text ts a x → (m : ℕ) (xs : List Stmt) → m ≡ length x.body.names → xs ≡ x.body.stmts → all_below m xs ≡ true
   source_below n m xs e f = ap₂ all_below (e ∙ ap length (same_names n)) (f ∙ same_stmts n) ∙ (goods n).below
@@ -140,25 +165,6 @@ module _ (text : List ℕ) (ts : List Token) (a : Tree Token) (x : Source) where
       (ap says (same_proc p (proc_of text (parts_of a)) (i1 ∙ ap (spelled text) n.seen.source.name) (i2 ∙ same_names n) (i3 ∙ n.seen.source.params) (i4 ∙ same_stmts n))
       ∙ sym (judged_says text (parts_of a) (names_none n) (sym (same_forms n m xs ps e f g) ∙ h)))
 
-  map_length : {A B : Type 0} (f : A → B) (ys : List A) → length (map f ys) ≡ length ys
-  map_length f [] = refl
-  map_length f (y ∷ ys) = ap suc (map_length f ys)
-
-  pub source_program : Named text ts a x → (m : ℕ) (xs : List Stmt) (ps : List ℕ) → m ≡ length x.body.names → xs ≡ x.body.stmts
-      → first_form ps (all_faults m xs) ≡ None → (p : Proc) → p.names ≡ x.body.names → p.params ≡ x.params → p.body ≡ x.body.stmts → IsProgram p
-  source_program n m xs ps e f h p i2 i3 i4 =
-      let d : GoodNames p.names = subst GoodNames (sym i2) (good_names n) in
-      let c : length p.names ≡ length (declared (parts_of a)) = ap length (i2 ∙ same_names n) ∙ map_length (spelled text) (declared (parts_of a)) in
-      record {
-        different = d.different;
-        few = d.few;
-        params = omega (arith, c, i3 ∙ n.seen.source.params, length-append (parts_of a).params (parts_of a).locals);
-        limited = ap all_limited (i4 ∙ same_stmts n) ∙ (goods n).limited;
-        forms = forms_pass (length p.names) p.body ps
-            (ap₂ all_below (ap length i2 ∙ ap length (same_names n)) (i4 ∙ same_stmts n) ∙ (goods n).below)
-            (ap (first_form ps) (ap₂ all_faults (ap length i2 ∙ sym e) (i4 ∙ sym f)) ∙ h);
-      }
-
 -- ---- conditions
 
 pub record Told (names : List (List ℕ)) (text : List ℕ) (ts : List Token) (a : Tree Token) (x : Cond) : Type 0 where
@@ -169,7 +175,7 @@ pub record Told (names : List (List ℕ)) (text : List ℕ) (ts : List Token) (a
 
 pub record ToldKnown (names : List (List ℕ)) (text : List ℕ) (ts : List Token) (a : Tree Token) (x : Cond) : Type 0 where
   pub told : Told names text ts a x
-  pub good : used_fault text names ts ≡ None
+  pub good : descent.used_fault text names ts ≡ None
 
 module _ (names : List (List ℕ)) (text : List ℕ) (ts : List Token) (a : Tree Token) (x : Cond) where
   leaves_are : Told names text ts a x → leaves a ≡ ts
@@ -178,9 +184,9 @@ module _ (names : List (List ℕ)) (text : List ℕ) (ts : List Token) (a : Tree
   abbrev later : Cond → Outcome (List (List Atom))
   later c = first_of (form_at (first_at a) (dnf_fault (length names) c false)) (says (conjunctions_of (length names) c false))
 
-  pub bad_use : Told names text ts a x → (f : Fault) → used_fault text names ts ≡ Some f → Faulty (ConditionOutcome names text) f
+  pub bad_use : Told names text ts a x → (f : DescentFault) → descent.used_fault text names ts ≡ Some f → Faulty (ConditionOutcome names text) (raised f)
   bad_use s f e =
-      inr (tree s.short ts s.spelled a s.found (sym (ap (λ z. first_of z (later (cond_of (place_in text names) a))) (ap (used_fault text names) (leaves_are s) ∙ e))))
+      inr (tree s.short ts s.spelled a s.found (sym (ap (λ z. first_of z (later (cond_of (place_in text names) a))) (ap (used_fault text names) (leaves_are s) ∙ ap (option_map raised) e))))
 
   good_told : ToldKnown names text ts a x → GoodCond (length names) (place_in text names) (cond_of (place_in text names) a)
   good_told n = good_cond (length names) (place_in text names) n.told.found.0 (record {
@@ -194,7 +200,7 @@ module _ (names : List (List ℕ)) (text : List ℕ) (ts : List Token) (a : Tree
 
   judged_later : ToldKnown names text ts a x → judge_condition names text a ≡ later x
   judged_later n =
-      ap (λ z. first_of z (later (cond_of (place_in text names) a))) (ap (used_fault text names) (leaves_are n.told) ∙ n.good) ∙ ap later n.told.said
+      ap (λ z. first_of z (later (cond_of (place_in text names) a))) (ap (used_fault text names) (leaves_are n.told) ∙ ap (option_map raised) n.good) ∙ ap later n.told.said
 
   pub bad_condition : ToldKnown names text ts a x → (m at : ℕ) → m ≡ length names → at ≡ head_at ts → (f : FormFault) → IsCause f (dnf_fault m x false) → Faulty (ConditionOutcome names text) (fault (form_kind f) at)
   bad_condition n m at e h f (inl q) = inl (ap form_kind q)

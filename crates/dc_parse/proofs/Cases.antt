@@ -1,6 +1,7 @@
 -- How many conjunctions a condition has, and how long they are.
 use Rattle.std.proofs.Common.{◌≡◌, ℕ, suc, ◌+◌, ◌*◌, ◌<◌, ◌≤◌, Bool, true, false, not, ltb, List, [], ◌∷◌, ◌++◌, length, map, refl, sym, ap, ◌∙◌, subst, arith, length-append, Some, None, if◌then◌else◌}
 use Rattle.std.proofs.lemmas.Bool.Decides.{nat_tests}
+use Rattle.std.proofs.lemmas.List.{length-map}
 use Rattle.std.specs.declared.option.Option.{Option}
 use Rattle.std.specs.Option.{option_or}
 use Rattle.dc_syntax.specs.declared.tree.Expr.{Expr}
@@ -36,13 +37,9 @@ short_crossed : {A : Type 0} (m n : ℕ) (fs gs : List (List A)) → AllShort m 
 short_crossed m n [] gs h g = tt
 short_crossed m n (f ∷ fs) gs h g = short_both (m + n) (after f gs) (crossed fs gs) (short_after m n f gs h.0 g) (short_crossed m n fs gs h.1 g)
 
-map_length : {A B : Type 0} (f : A → B) (xs : List A) → length (map f xs) ≡ length xs
-map_length f [] = refl
-map_length f (x ∷ xs) = ap suc (map_length f xs)
-
 short_map : {A B : Type 0} (n : ℕ) (f : A → B) (fs : List (List A)) → AllShort n fs → AllShort n (map (map f) fs)
 short_map n f [] h = tt
-short_map n f (g ∷ fs) h = (omega (arith, h.0, map_length f g), short_map n f fs h.1)
+short_map n f (g ∷ fs) h = (omega (arith, h.0, length-map g f), short_map n f fs h.1)
 
 some_both : {A : Type 0} (fs gs : List A) → 1 ≤ length fs → 1 ≤ length (fs ++ gs)
 some_both fs gs h = omega (arith, length-append fs gs)
@@ -117,7 +114,7 @@ not_wider n h = go (ltb 64 n) refl h
 pub condition_meets : (n : ℕ) (c : Cond) (cases : List (List Atom)) → cond_operators c ≤ 64 → dnf_fault n c false ≡ None → cases ≡ conjunctions_of n c false → AllCases (IsFullAtom n) cases → IsCondition n cases
 condition_meets n c cases o d e a =
     let s : Sized (cond_operators c) (facts_of c false) = sized c false in
-    let l : length cases ≡ length (facts_of c false) = ap length e ∙ map_length (map (atom_of n)) (facts_of c false) in
+    let l : length cases ≡ length (facts_of c false) = ap length e ∙ length-map (facts_of c false) (map (atom_of n)) in
     let w : length (facts_of c false) ≤ 64 = not_wider _ (none_second (comparison_fault n c) (width_fault c false) d) in
     record {
       some = omega (arith, s.some);

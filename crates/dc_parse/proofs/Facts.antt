@@ -40,7 +40,7 @@ pub record CondFacts (n : ℕ) (p : Token → ℕ) (u : List Token) (x : Cond) :
   pub fits : Each Small u → cond_literals_fit x ≡ true
   pub below : Each (Known n p) u → cond_is_below n x ≡ true
 
-both_true : (a b : Bool) → a ≡ true → b ≡ true → (a && b) ≡ true
+pub both_true : (a b : Bool) → a ≡ true → b ≡ true → (a && b) ≡ true
 both_true true b g h = h
 both_true false b g h = absurd cc
 

@@ -13,14 +13,14 @@ use Rattle.dc_grammar.specs.Verdicts.{Verdict, whole, unexpected, unclosed, too_
 use Rattle.dc_grammar.proofs.LanguageReader.{language_ahead}
 use Rattle.dc_grammar.proofs.Right.{deep_or_not, nothing_shallow}
 use Rattle.dc_grammar.proofs.Verdicts.{has_one_verdict}
-use Rattle.dc_descent.specs.declared.fault.Fault.{Fault}
-use Rattle.dc_descent.specs.Faults.{verdict_fault}
+use Rattle.dc_parse.specs.declared.fault.Fault.{Fault}
+use Rattle.dc_parse.specs.Faults.{verdict_fault}
 use Rattle.dc_parse.specs.Outcomes.{Outcome, refuses, lexed, IsOutcome, too_long, bytes, grammar, tree, HasOneOutcome}
 
 verdicts : (ts : List Token) → HasOneVerdict language IsDeep ts
 verdicts ts = has_one_verdict language_ahead IsDeep deep_or_not nothing_shallow ts
 
-same_verdict : (text : List ℕ) (x : Name) (ts us : List Token) → Tokens 0 text ts → Tokens 0 text us → (v w : Verdict Token) → Finds language IsDeep x ts v → Finds language IsDeep x us w → v ≡ w
+pub same_verdict : (text : List ℕ) (x : Name) (ts us : List Token) → Tokens 0 text ts → Tokens 0 text us → (v w : Verdict Token) → Finds language IsDeep x ts v → Finds language IsDeep x us w → v ≡ w
 same_verdict text x ts us t u v w f g = (verdicts us).one x v w (subst (λ z. Finds language IsDeep x z v) ((one_reading text).one_list ts us t u) f) g
 
 some_fault : (ts : List Token) (n : ℕ) (a : Tree Token) (v : Verdict Token) (f : Fault) → verdict_fault ts n v ≡ Some f → v ≡ whole a → ⊥

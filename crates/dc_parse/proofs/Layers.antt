@@ -110,7 +110,7 @@ below_at n (X ∷ R) (suc i) S l e h = below_at n R i S (omega arith) e (both (s
 
 -- ---- numbers of statements
 
-counted : (f : Option FormFault) (gs : List (Option FormFault)) (hs : List (Option FormFault)) → hs ≡ (f ∷ []) ++ gs → length hs ≡ 1 + length gs
+pub counted : (f : Option FormFault) (gs : List (Option FormFault)) (hs : List (Option FormFault)) → hs ≡ (f ∷ []) ++ gs → length hs ≡ 1 + length gs
 counted f gs hs e = ap length e ∙ omega arith
 
 pub count_If : (n : ℕ) (S : Stmt) (c : Cond) (A B : List Stmt) → out-Stmt S ≡ If c A B → length (faults_in n S) ≡ 1 + (length (all_faults n A) + length (all_faults n B))

@@ -14,3 +14,5 @@ pub mod Refused
 pub mod Cases
 pub mod Assembled
 pub mod Uses
+pub mod Begins
+pub mod Said

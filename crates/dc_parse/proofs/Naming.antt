@@ -18,7 +18,7 @@ use Rattle.dc_parse.proofs.Counted.{Each}
 use Rattle.dc_parse.proofs.Facts.{Known}
 use Rattle.dc_parse.proofs.Equal.{bytes_equivalence}
 
-pub none_both : (d u : Option Fault) → option_or d u ≡ None → (d ≡ None) × (u ≡ None)
+pub none_both : {A : Type 0} (d u : Option A) → option_or d u ≡ None → (d ≡ None) × (u ≡ None)
 none_both None u h = (refl, h)
 none_both (Some f) u h = absurd cc
 

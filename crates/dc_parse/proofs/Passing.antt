@@ -9,13 +9,10 @@ use Rattle.dc_affine.specs.declared.form.FormFault.{FormFault}
 use Rattle.dc_affine.specs.Whole.{statement_fault, statement_below, no_fault, each, inner, pass_step, statement_passes, all_pass}
 use Rattle.dc_parse.specs.Forms.{faults_step, faults_in, all_faults, first_form, below_step, stmt_below, all_below}
 use Rattle.dc_parse.specs.Steps.{after_all}
+use Rattle.dc_parse.proofs.Facts.{both_true}
 use Rattle.dc_parse.proofs.Layers.{both, inside, faults_layer}
 use Rattle.dc_parse.proofs.Naming.{none_both}
 use Rattle.dc_parse.proofs.Stopping.{first_both}
-
-both_true : (a b : Bool) → a ≡ true → b ≡ true → (a && b) ≡ true
-both_true true b g h = h
-both_true false b g h = absurd cc
 
 module _ (n : ℕ) where
   -- where it starts anywhere, without a fault

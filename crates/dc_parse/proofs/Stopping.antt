@@ -7,8 +7,8 @@ use Rattle.std.proofs.Math.Seq.{drop-cons}
 use Rattle.std.proofs.lemmas.Result.{err_from_is_err_and}
 use Rattle.dc_syntax.specs.declared.tree.Stmt.{Stmt}
 use Rattle.dc_affine.specs.declared.form.FormFault.{FormFault}
-use Rattle.dc_descent.specs.declared.fault.Fault.{Fault}
-use Rattle.dc_descent.specs.declared.fault.Kind.TheVariants as k
+use Rattle.dc_parse.specs.declared.fault.Fault.{Fault}
+use Rattle.dc_parse.specs.declared.fault.Kind.TheVariants as k
 use Rattle.dc_parse.specs.Forms.{first_form, tail_of, faults_in, all_faults}
 use Rattle.dc_parse.specs.Steps.{after_all, JudgesAll}
 

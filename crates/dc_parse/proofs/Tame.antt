@@ -19,7 +19,7 @@ use Rattle.dc_descent.specs.Trees.{expr_of, cond_of}
 use Rattle.dc_descent.specs.Statements.{assigned_of, choice_of, branch_by, loop_by, stmt_of, stmts_of, block_of, else_of}
 use Rattle.dc_parse.specs.Forms.{below_step, stmt_below, all_below}
 use Rattle.dc_parse.proofs.Counted.{is_same, Each, each_front, each_rest, Inside, ops}
-use Rattle.dc_parse.proofs.Facts.{Known, Small, ExprFacts, CondFacts, expr_facts, cond_facts}
+use Rattle.dc_parse.proofs.Facts.{Known, Small, both_true, ExprFacts, CondFacts, expr_facts, cond_facts}
 use Rattle.dc_parse.proofs.Folds.{at_skip, at_assign, at_any_of, at_between, at_tick, at_assume, at_if, at_if_any, at_while, at_while_any}
 
 -- ---- tokens with places for their names, small numbers, and few operators in a row
@@ -48,10 +48,6 @@ pub tame_rest : {n : ℕ} {p : Token → ℕ} (u v : List Token) → Tame n p (u
 tame_rest {n} {p} u v t = record { known = each_rest (Known n p) u v t.known; small = each_rest Small u v t.small; few = few_rest u v t.few }
 
 -- ---- tests
-
-both_true : (a b : Bool) → a ≡ true → b ≡ true → (a && b) ≡ true
-both_true true b g h = h
-both_true false b g h = absurd cc
 
 at_most : (a : ℕ) → a ≤ 64 → leb a 64 ≡ true
 at_most a h = grind (arith, nat_tests)

@@ -2,9 +2,9 @@
 use Rattle.std.proofs.Common.{◌≡◌, ℕ, List, refl}
 use Rattle.dc_grammar.specs.Language.{source}
 use Rattle.dc_syntax.specs.declared.tree.Proc.{Proc}
-use Rattle.dc_descent.specs.declared.fault.Fault.{Fault}
-use Rattle.dc_descent.specs.declared.fault.Kind.{Kind}
-use Rattle.dc_descent.specs.declared.fault.Kind.TheVariants as k
+use Rattle.dc_parse.specs.declared.fault.Fault.{Fault}
+use Rattle.dc_parse.specs.declared.fault.Kind.{Kind}
+use Rattle.dc_parse.specs.declared.fault.Kind.TheVariants as k
 use Rattle.dc_parse.specs.Outcomes.{Outcome, says, refuses}
 use Rattle.dc_parse.specs.Judges.{judge_source}
 use Rattle.dc_parse.specs.Answers.{SourceOutcome, IsRefusal}

@@ -6,10 +6,10 @@ use Rattle.dc_syntax.specs.declared.tree.Stmt.TheOpen.{Skip, Assign, AnyOf, Betw
 use Rattle.dc_affine.specs.declared.form.FormFault.{FormFault}
 use Rattle.dc_affine.specs.declared.form.FormFault.TheVariants as f
 use Rattle.dc_affine.specs.Whole.{statement_fault, statement_below, inner, each}
-use Rattle.dc_descent.specs.declared.fault.Fault.{Fault}
-use Rattle.dc_descent.specs.declared.fault.Kind.{Kind}
-use Rattle.dc_descent.specs.declared.fault.Kind.TheVariants as k
-use Rattle.dc_descent.specs.Faults.{fault}
+use Rattle.dc_parse.specs.declared.fault.Fault.{Fault}
+use Rattle.dc_parse.specs.declared.fault.Kind.{Kind}
+use Rattle.dc_parse.specs.declared.fault.Kind.TheVariants as k
+use Rattle.dc_parse.specs.Faults.{fault}
 
 abbrev pub form_kind : FormFault → Kind
 form_kind f.DegreeTooHigh = k.DegreeTooHigh

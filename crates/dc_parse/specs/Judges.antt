@@ -7,10 +7,10 @@ use Rattle.dc_syntax.specs.declared.tree.Proc.{Proc}
 use Rattle.dc_affine.specs.declared.atom.Atom.{Atom}
 use Rattle.dc_affine.specs.declared.form.FormFault.{FormFault}
 use Rattle.dc_affine.specs.Atoms.{dnf_fault, conjunctions_of}
-use Rattle.dc_descent.specs.declared.fault.Fault.{Fault}
-use Rattle.dc_descent.specs.Faults.{fault, used_fault}
+use Rattle.dc_parse.specs.declared.fault.Fault.{Fault}
+use Rattle.dc_parse.specs.Faults.{fault, names_fault, used_fault}
 use Rattle.dc_descent.specs.Scopes.{spelled, place_in}
-use Rattle.dc_descent.specs.Sources.{Parts, parts_of, names_of, body_of, names_fault}
+use Rattle.dc_descent.specs.Sources.{Parts, parts_of, names_of, body_of}
 use Rattle.dc_descent.specs.Statements.{first_at, starts_of}
 use Rattle.dc_descent.specs.Trees.{leaves, cond_of}
 use Rattle.dc_parse.specs.Outcomes.{Outcome, says, first_of}

@@ -9,9 +9,9 @@ use Rattle.dc_grammar.specs.Grammar.{Tree}
 use Rattle.dc_grammar.specs.Language.{Name, language}
 use Rattle.dc_grammar.specs.Depth.{IsDeep}
 use Rattle.dc_grammar.specs.Verdicts.{Verdict, whole, Finds}
-use Rattle.dc_descent.specs.declared.fault.Fault.{Fault}
-use Rattle.dc_descent.specs.declared.fault.Kind.TheVariants as k
-use Rattle.dc_descent.specs.Faults.{fault, verdict_fault}
+use Rattle.dc_parse.specs.declared.fault.Fault.{Fault}
+use Rattle.dc_parse.specs.declared.fault.Kind.TheVariants as k
+use Rattle.dc_parse.specs.Faults.{fault, verdict_fault}
 
 pub data Outcome (A : Type 0) : Type 0 where
   -- the text says this

@@ -5,12 +5,11 @@ ghost use Rattle.dc_affine.specs.Atoms.{cond_is_below, dnf_fault};
 ghost use Rattle.std.specs.Option.{option_or};
 ghost use Rattle.dc_affine.specs.Whole.{statement_fault, statement_below};
 ghost use Rattle.dc_syntax.specs.declared.tree.Stmt.{out-Stmt};
-ghost use Rattle.dc_descent.specs.declared.fault.Kind.TheVariants as kinds;
 ghost use Rattle.dc_parse.specs.Forms.{all_below, all_faults, faults_in, first_form, form_kind as kind_of, head_of, stmt_below, tail_of};
 ghost use Rattle.dc_parse.specs.Steps.{Judges, JudgesAll};
 
+use crate::fault::{Fault, Kind};
 use dc_affine::{FormFault, affine, dnf, normal};
-use dc_descent::{Fault, Kind};
 use dc_syntax::{Cond, Stmt};
 use std::alloc::Global;
 

@@ -6,16 +6,22 @@ ghost use Rattle.dc_tokens.specs.Places.{line_at, column_at};
 ghost use Rattle.dc_tokens.specs.Texts.{Tokens, Fails};
 ghost use Rattle.dc_syntax.specs.Params.{params_of};
 ghost use Rattle.dc_affine.specs.Atoms.{cases_of};
+ghost use Rattle.dc_grammar.specs.Language.{source, cond};
+ghost use Rattle.dc_descent.specs.Scopes.{places};
+ghost use Rattle.dc_descent.specs.Sources.{IsSource};
 ghost use Rattle.dc_descent.specs.Statements.{head_at};
+ghost use Rattle.dc_descent.specs.Trees.{IsCond};
 ghost use Rattle.dc_program.specs.Programs.{IsProgram, IsCondition};
 ghost use Rattle.dc_parse.specs.Outcomes.{says, refuses};
 ghost use Rattle.dc_parse.specs.Outcomes.{lexed as fault_of};
+ghost use Rattle.dc_parse.specs.Steps.{IsFound};
 ghost use Rattle.dc_parse.specs.Answers.{SourceOutcome, ConditionOutcome, IsRefusal};
 
+use crate::fault::{Fault, Kind, raise};
 use crate::forms::{Starts, form_kind, judge_all};
 use dc_affine::{Atom, dnf};
-use dc_descent::{Fault, Kind, Scope, first_unknown, read_condition, read_source, spelling};
-use dc_syntax::{Name, Proc, ascii_text};
+use dc_descent::{Scope, Source, first_unknown, read_condition, read_source, spelling};
+use dc_syntax::{Cond, Name, Proc, ascii_text};
 use dc_tokens::{LexFault, Token, line_col, tokens};
 use std::alloc::Global;
 use thiserror::Error;
@@ -64,6 +70,27 @@ fn lexed(alloc: Global, text: &[u8]) -> Result<Vec<Token>, Fault>
     }
 }
 
+/// The source that the tokens of a text are.
+fn source_of(alloc: Global, text: &[u8], tokens: &[Token]) -> Result<Source, Fault>
+    requires { IsAscii text.now }
+    ensures { IsFound source (IsSource text.now) tokens.now (length text.now) result }
+{
+    match read_source(alloc, text, tokens) {
+        Ok(found) => Ok(found),
+        Err(fault) => Err(raise(fault)),
+    }
+}
+
+/// The condition that the tokens of a text are, over the names of the scope.
+fn condition_of(alloc: Global, scope: &Scope<'_>, tokens: &[Token]) -> Result<Cond, Fault>
+    ensures { IsFound cond (IsCond (places scope.now)) tokens.now (length scope.now.text.now) result }
+{
+    match read_condition(alloc, scope, tokens) {
+        Ok(found) => Ok(found),
+        Err(fault) => Err(raise(fault)),
+    }
+}
+
 /// The place of the first token; 0 where there is none.
 fn first_place(tokens: &[Token]) -> usize
     ensures { result ≡ head_at tokens.now }
@@ -82,10 +109,10 @@ fn read_proc(alloc: Global, text: &[u8]) -> Result<Proc, Fault>
     ensures fault { IfErr result (λ f. (f.kind ≡ Kind.NoMemory) ⊎ SourceOutcome text.now (refuses f)) }
 {
     let tokens = lexed(alloc, text)?;
-    let source = read_source(alloc, text, tokens.as_slice())?;
+    let source = source_of(alloc, text, tokens.as_slice())?;
     let body = source.body;
     if let Some(fault) = body.fault {
-        return Err(fault);
+        return Err(raise(fault));
     }
     let mut starts = Starts {
         rest: body.starts.as_slice(),
@@ -122,9 +149,9 @@ fn read_when(alloc: Global, text: &[u8], p: &Proc) -> Result<Vec<Vec<Atom>>, Fau
         text,
         names: params(p),
     };
-    let condition = read_condition(alloc, &scope, tokens.as_slice())?;
+    let condition = condition_of(alloc, &scope, tokens.as_slice())?;
     if let Some(fault) = first_unknown(&scope, tokens.as_slice()) {
-        return Err(fault);
+        return Err(raise(fault));
     }
     match dnf(alloc, &condition, false, p.params) {
         Ok(cases) => Ok(cases),

@@ -1,3 +1,4 @@
+pub mod Different
 pub mod Words
 pub mod Says
 pub mod Signs
@@ -17,6 +18,7 @@ pub mod StmtLow
 pub mod Fewest
 pub mod Depths
 pub mod Calm
+pub mod Deep
 pub mod Spelled
 pub mod Knowing
 pub mod Programs

@@ -1,9 +1,6 @@
 -- What the parser gives fits, so that it has a text.
 use Rattle.std.proofs.Common.{◌≡◌, ℕ, zero, suc, ◌<◌, Bool, true, false, ◌&&◌, ltb, leb, nat_lt, nat_le, List, [], ◌∷◌, map, length, get_or, refl, sym, ap, ◌∙◌, arith}
-use Rattle.std.specs.Str.{bytes_eq}
-use Rattle.std.specs.List.{IsDistinct, AllByRecursion}
 use Rattle.std.proofs.lemmas.Bool.Decides.{nat_tests}
-use Rattle.std.proofs.lemmas.Slice.Eq.{bytes_eq-Decides}
 use Rattle.dc_tokens.proofs.Front.{and_left, and_right}
 use Rattle.dc_syntax.specs.declared.tree.Expr.{Expr, Expr-F, roll-Expr}
 use Rattle.dc_syntax.specs.declared.tree.Expr.TheOpen as F
@@ -21,7 +18,7 @@ use Rattle.dc_program.specs.Limits.{literals_step, literals_fit, cond_literals_s
 use Rattle.dc_program.specs.Programs.{IsProgram}
 use Rattle.dc_syntax.specs.declared.tree.Proc.{Proc}
 use Rattle.dc_parse.proofs.Folds.{at_num, at_var, at_neg, at_add, at_sub, at_mul, at_cmp, at_not, at_and, at_or, at_assign, at_any_of, at_between, at_tick, at_assume, at_if, at_if_any, at_while, at_while_any}
-use Rattle.dc_printed.specs.Fits.{IsName, AreNames, AreDifferent, IsWritable, fits, cond_fits, stmt_fits, stmts_fit}
+use Rattle.dc_printed.specs.Fits.{IsName, AreNames, IsWritable, fits, cond_fits, stmt_fits, stmts_fit}
 use Rattle.dc_printed.proofs.Parts.{fits-Num, fits-Var, fits-Neg, fits-Add, fits-Sub, fits-Mul, fits-True, fits-False, fits-Cmp, fits-Not, fits-And, fits-Or}
 use Rattle.dc_printed.proofs.StmtParts.{fits-Skip, fits-Assign, fits-AnyOf, fits-Between, fits-Tick, fits-Assume, fits-If, fits-IfAny, fits-While, fits-WhileAny}
 
@@ -142,28 +139,11 @@ module _ (n : ℕ) where
   pub body_fits : (A : List Stmt) → all_pass n A ≡ true → all_limited A ≡ true → stmts_fit n A ≡ true
   body_fits A f l = all_fit A (every A) (passes_each A f) l
 
--- ---- different names
-
-same_bytes : (a : List ℕ) → bytes_eq a a ≡ true
-same_bytes a = (bytes_eq-Decides a a).1 refl
-
-none_equal : (x : List ℕ) (ns : List (List ℕ)) (j : ℕ) → AllByRecursion (λ y. bytes_eq x y ≡ false) ns → j < length ns → x ≡ get_or ns j [] → ⊥
-none_equal x [] j h l e = absurd (omega arith)
-none_equal x (y ∷ ns) zero h l e = let z : true ≡ false = sym (same_bytes x) ∙ (ap (bytes_eq x) e ∙ h.0) in cc
-none_equal x (y ∷ ns) (suc j) h l e = none_equal x ns j h.1 (omega arith) e
-
-pub distinct_different : (ns : List (List ℕ)) → IsDistinct bytes_eq ns → AreDifferent ns
-unfolding IsDistinct
-distinct_different [] h i j l m e = absurd (omega arith)
-distinct_different (x ∷ ns) h i zero l m e = absurd (omega arith)
-distinct_different (x ∷ ns) h zero (suc j) l m e = none_equal x ns j h.0 (omega arith) e
-distinct_different (x ∷ ns) h (suc i) (suc j) l m e = distinct_different ns h.1 i j (omega arith) (omega arith) e
-
 pub writable : (p : Proc) → IsProgram p → IsName p.name → AreNames p.names → IsWritable p
 writable p h n are = record {
   name = n;
   names = are;
-  different = distinct_different p.names h.different;
+  different = h.different;
   params = h.params;
   body = body_fits (length p.names) p.body h.forms h.limited;
 }

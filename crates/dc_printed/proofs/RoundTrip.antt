@@ -2,14 +2,13 @@
 use Rattle.std.proofs.Common.{◌≡◌, ℕ, ◌+◌, ◌<◌, ◌≤◌, Bool, true, false, leb, List, [], ◌∷◌, ◌++◌, map, length, take, drop, get_or, Option, Some, None, refl, sym, ap, subst, ◌∙◌, arith, inl, inr}
 use Rattle.std.specs.Prelude.{if◌then◌else◌, fold}
 use Rattle.std.proofs.lemmas.Bool.Decides.{nat_tests}
-use Rattle.std.specs.Option.{unwrap_or, option_or}
-use Rattle.dc_tokens.specs.declared.token.TokenKind.{TokenKind}
+use Rattle.std.specs.Option.{unwrap_or, option_or, option_map}
 use Rattle.dc_tokens.specs.declared.token.TokenKind.TheVariants as k
 use Rattle.dc_tokens.specs.declared.token.Token.{Token}
 use Rattle.dc_tokens.proofs.Readings.{one_reading}
 use Rattle.dc_grammar.specs.Kinds.{is}
-use Rattle.dc_grammar.specs.Grammar.{Rule, ref, many, Tree, Derives, token, nothing, name, both, first, second, no_more, one_more}
-use Rattle.dc_grammar.specs.Language.{Name, language, source, stmt}
+use Rattle.dc_grammar.specs.Grammar.{ref, many, Tree, Derives, token, name, both}
+use Rattle.dc_grammar.specs.Language.{language, source, stmt}
 use Rattle.dc_grammar.specs.Depth.{IsDeep, open_brackets, operators_so_far, brackets_with, operators_with}
 use Rattle.dc_grammar.specs.Verdicts.{Shallow}
 use Rattle.dc_grammar.proofs.Alone.{one_tree}
@@ -19,25 +18,31 @@ use Rattle.dc_syntax.specs.declared.tree.Proc.{Proc}
 use Rattle.dc_syntax.specs.Names.{has_name, place_of}
 use Rattle.dc_syntax.specs.Text.{text_of}
 use Rattle.dc_affine.specs.declared.form.FormFault.{FormFault}
-use Rattle.dc_descent.specs.declared.fault.Fault.{Fault}
 use Rattle.dc_descent.specs.Faults.{fault, declared_fault, missing, used_fault}
 use Rattle.dc_descent.specs.Scopes.{spelled, place_in}
 use Rattle.dc_descent.specs.Statements.{stmts_of, starts_of}
 use Rattle.dc_descent.specs.Trees.{leaves}
-use Rattle.dc_descent.specs.Sources.{parts_of, declared, names_of, names_fault}
+use Rattle.dc_descent.specs.Sources.{parts_of, declared, names_of}
+use Rattle.dc_descent.specs.Sources as sources
+use Rattle.dc_parse.specs.Faults.{raised, names_fault}
+use Rattle.dc_descent.proofs.Lists.{derived_leaves}
 use Rattle.dc_descent.proofs.Positions.{found}
 use Rattle.dc_program.specs.Programs.{IsProgram}
 use Rattle.dc_program.specs.Limits.{all_limited}
 use Rattle.dc_descent.specs.declared.fault.Kind.TheVariants.{TooManyNames, NameTwice}
-use Rattle.dc_parse.specs.Outcomes.{Outcome, says, refuses, first_of, too_long, bytes, grammar, tree}
+use Rattle.dc_parse.specs.Outcomes.{says, first_of, tree}
 use Rattle.dc_parse.specs.Forms.{all_faults, first_form}
 use Rattle.dc_parse.specs.Judges.{proc_of, forms_fault, judge_source}
 use Rattle.dc_parse.specs.Answers.{SourceOutcome}
+use Rattle.dc_parse.proofs.Assembled.{raised_none}
 use Rattle.dc_parse.proofs.Counted.{Each}
 use Rattle.dc_parse.proofs.Facts.{Known}
+use Rattle.dc_parse.proofs.Naming.{none_both}
+use Rattle.dc_parse.proofs.Said.{in_source, source_is_program}
 use Rattle.dc_printed.specs.Brackets.{brackets_of, brackets_in}
-use Rattle.dc_printed.specs.Fits.{IsName, AreDifferent, IsWritable, stmts_fit}
+use Rattle.dc_printed.specs.Fits.{IsName, IsWritable, stmts_fit}
 use Rattle.dc_printed.specs.Laws.{HasTree}
+use Rattle.dc_printed.proofs.Different.{AreDifferent, bytes_same, distinct_different}
 use Rattle.dc_printed.proofs.Measures.{top, depth}
 use Rattle.dc_printed.proofs.Depths.{front_below, top_reached}
 use Rattle.dc_printed.proofs.Calm.{front_most, calm_source}
@@ -45,7 +50,7 @@ use Rattle.dc_printed.proofs.Exprs as exprs
 use Rattle.dc_printed.proofs.Fewest.{need_proc, text_sized, no_fewer}
 use Rattle.dc_printed.proofs.Knowing.{know_stmts}
 use Rattle.dc_printed.proofs.Programs.{writable}
-use Rattle.dc_printed.proofs.Sources.{AllNames, IsPrinted, printed, printed_by, bytes_same, different_before}
+use Rattle.dc_printed.proofs.Sources.{AllNames, IsPrinted, printed, printed_by, different_before}
 use Rattle.dc_printed.proofs.Spelled.{tokens_spelled, source_names, are_names}
 
 -- ---- what the first text told
@@ -56,37 +61,21 @@ record Told (text : List ℕ) (p : Proc) : Type 0 where
   declares : declared_fault text [] (declared (parts_of has.tree)) ≡ None
   forms : first_form (starts_of (parts_of has.tree).body) (all_faults (length p.names) p.body) ≡ None
 
-no_fault : {A : Type 0} (o : Option Fault) (x y : Outcome A) → first_of o x ≡ y → (z : A) → y ≡ says z → (o ≡ None) × (x ≡ y)
-no_fault None x y h z e = (refl, h)
-no_fault (Some f) x y h z e = absurd (let q : refuses f ≡ says z = h ∙ e in cc)
-
-or_none : {A : Type 0} (a b : Option A) → option_or a b ≡ None → (a ≡ None) × (b ≡ None)
-or_none None b h = (refl, h)
-or_none (Some x) b h = absurd cc
-
-says_same : {A : Type 0} (x y : A) → says x ≡ says y → x ≡ y
-says_same x y h = cc
-
 told : (text : List ℕ) (p : Proc) → SourceOutcome text (says p) → Told text p
-told text p (too_long l e) = absurd cc
-told text p (bytes l f w e) = absurd cc
-told text p (grammar l ts r v d f g e) = absurd cc
-told text p (tree l ts r a d e) =
-    let j : judge_source text a ≡ says p = sym e in
-    let n = no_fault (names_fault text (parts_of a)) _ _ j p refl in
-    let f = no_fault (forms_fault text (parts_of a)) _ _ n.1 p refl in
-    let s : proc_of text (parts_of a) ≡ p = says_same _ _ f.1 in
+told text p o =
+    let i = in_source text p o in
+    let s = i.is in
     record {
       has = record {
-        tokens = ts;
-        tree = a;
-        read = r;
-        derived = d.0;
+        tokens = i.tokens;
+        tree = i.tree;
+        read = i.read;
+        derived = i.found.0;
         says = record { name = ap (λ x. x.name) s; params = ap (λ x. x.params) s; names = ap (λ x. x.names) s; body = ap (λ x. x.body) s };
       };
-      shallow = d.1;
-      declares = (or_none _ _ n.0).0;
-      forms = subst (λ x. first_form (starts_of (parts_of a).body) (all_faults (length x.names) x.body) ≡ None) s f.0;
+      shallow = i.found.1;
+      declares = (none_both _ _ (raised_none (sources.names_fault text (parts_of i.tree)) i.names)).0;
+      forms = subst (λ x. first_form (starts_of (parts_of i.tree).body) (all_faults (length x.names) x.body) ≡ None) s i.forms;
     }
 
 -- ---- declared names, by their spelling
@@ -143,17 +132,6 @@ record Inner (a : Tree Token) : Type 0 where
 inner : {ts : List Token} {a : Tree Token} → Derives language (ref source) ts a → Inner a
 inner (name (both (token h1) (both (token h2) (both (token h3) (both dp (both (token h4) (both (token h5) (both dl (both ds (token h6)))))))))) = record { tokens = _; derived = ds }
 
--- the leaves of a derivation are its tokens
-leaves_are : {r : Rule TokenKind Name} {ts : List Token} {a : Tree Token} → Derives language r ts a → leaves a ≡ ts
-leaves_are (token h) = refl
-leaves_are nothing = refl
-leaves_are (name d) = leaves_are d
-leaves_are (both d g) = λ j. leaves_are d j ++ leaves_are g j
-leaves_are (first d) = leaves_are d
-leaves_are (second d) = leaves_are d
-leaves_are no_more = refl
-leaves_are (one_more d g) = λ j. leaves_are d j ++ leaves_are g j
-
 -- ---- forms: their faults do not hang on places
 
 forms_anywhere : (ps qs : List ℕ) (fs : List (Option FormFault)) → first_form ps fs ≡ None → first_form qs fs ≡ None
@@ -205,33 +183,36 @@ shallow_again text p w has sh mine g =
 
 -- ---- the printed text
 
-pub has_text : (text : List ℕ) (p : Proc) → SourceOutcome text (says p) → IsProgram p → IsWritable p
-has_text text p o g =
+pub has_text : (text : List ℕ) (p : Proc) → SourceOutcome text (says p) → IsWritable p
+has_text text p o =
+    let g = source_is_program text p o in
     let t = told text p o in
     let has = t.has in
     let said = has.says in
     let ns = source_names text has.derived (tokens_spelled text has.read refl) in
     writable p g (subst IsName said.name ns.own) (are_names p.names (subst AllNames said.names ns.declared))
 
-pub reads_back : (text : List ℕ) (p : Proc) → SourceOutcome text (says p) → IsProgram p → length (text_of p) ≤ 65536 → SourceOutcome (text_of p) (says p)
-reads_back text p o g l =
+pub reads_back : (text : List ℕ) (p : Proc) → SourceOutcome text (says p) → length (text_of p) ≤ 65536 → SourceOutcome (text_of p) (says p)
+reads_back text p o l =
+    let g = source_is_program text p o in
     let t = told text p o in
     let has = t.has in
     let said = has.says in
-    let w : IsWritable p = has_text text p o g in
+    let w : IsWritable p = has_text text p o in
     let mine = printed p w in
     let own = mine.has in
     let own_said = own.says in
-    let other = printed_by p (past (text_of p) p.names) w (finds_past (text_of p) p.names w.different) in
+    let other = printed_by p (past (text_of p) p.names) w (finds_past (text_of p) p.names (distinct_different p.names w.different)) in
     let tokens_same : other.tokens ≡ own.tokens = (let r = one_reading (text_of p) in let f = r.one_list in f other.tokens own.tokens other.read own.read) in
     let tree_same : other.tree ≡ own.tree = one_tree language_ahead source own.tokens other.tree own.tree (subst (λ ts. Derives language (ref source) ts other.tree) tokens_same other.derived) own.derived in
     let body_past : stmts_of (past (text_of p) p.names) (parts_of own.tree).body ≡ p.body = ap (λ a. stmts_of (past (text_of p) p.names) (parts_of a).body) (sym tree_same) ∙ other.body in
     let ins = inner own.derived in
     let known = know_stmts (length p.names) (past (text_of p) p.names) ins.derived (ap (stmts_fit (length p.names)) body_past ∙ w.body) in
-    let used : used_fault (text_of p) p.names (leaves (parts_of own.tree).body) ≡ None = ap (used_fault (text_of p) p.names) (leaves_are ins.derived) ∙ known_used (text_of p) p.names ins.tokens known in
+    let used : used_fault (text_of p) p.names (leaves (parts_of own.tree).body) ≡ None = ap (used_fault (text_of p) p.names) (derived_leaves ins.derived) ∙ known_used (text_of p) p.names ins.tokens known in
     let used_here : used_fault (text_of p) (names_of (text_of p) (parts_of own.tree)) (leaves (parts_of own.tree).body) ≡ None = ap (λ m. used_fault (text_of p) m (leaves (parts_of own.tree).body)) own_said.names ∙ used in
     let declares : declared_fault (text_of p) [] (declared (parts_of own.tree)) ≡ None = declared_same text (text_of p) [] (declared (parts_of has.tree)) (declared (parts_of own.tree)) (said.names ∙ sym own_said.names) t.declares in
-    let whole_name : names_fault (text_of p) (parts_of own.tree) ≡ None = ap (λ x. option_or x (used_fault (text_of p) (names_of (text_of p) (parts_of own.tree)) (leaves (parts_of own.tree).body))) declares ∙ used_here in
+    let known_name : sources.names_fault (text_of p) (parts_of own.tree) ≡ None = ap (λ x. option_or x (used_fault (text_of p) (names_of (text_of p) (parts_of own.tree)) (leaves (parts_of own.tree).body))) declares ∙ used_here in
+    let whole_name : names_fault (text_of p) (parts_of own.tree) ≡ None = ap (option_map raised) known_name in
     let proc_same : proc_of (text_of p) (parts_of own.tree) ≡ p = (λ j. record { name = own_said.name j; names = own_said.names j; params = own_said.params j; body = own_said.body j }) in
     let forms_here : forms_fault (text_of p) (parts_of own.tree) ≡ None =
     ap (λ x. first_form (starts_of (parts_of own.tree).body) (all_faults (length x.names) x.body)) proc_same ∙ forms_anywhere _ _ (all_faults (length p.names) p.body) t.forms in

@@ -19,7 +19,8 @@ use Rattle.dc_descent.specs.Sources.{more_names, names_in, params_in, locals_in,
 use Rattle.dc_descent.proofs.Positions.{NoneBefore, found}
 use Rattle.dc_printed.specs.Laws.{HasTree}
 use Rattle.dc_printed.specs.Brackets.{brackets_of, brackets_in}
-use Rattle.dc_printed.specs.Fits.{IsName, AreNames, AreDifferent, IsWritable}
+use Rattle.dc_printed.specs.Fits.{IsName, AreNames, IsWritable}
+use Rattle.dc_printed.proofs.Different.{AreDifferent, bytes_same, distinct_different}
 use Rattle.dc_printed.proofs.Words as words
 use Rattle.dc_printed.proofs.Words.{Reads, nothing_read, Breaks, token_of}
 use Rattle.dc_printed.proofs.Signs as sign
@@ -141,9 +142,6 @@ after_locals ls b = simp append_assoc refl
 bytes_equal : (a b : List ℕ) → bytes_eq a b ≡ true → a ≡ b
 bytes_equal a b h = (bytes_eq-Decides a b).0 h
 
-pub bytes_same : (a : List ℕ) → bytes_eq a a ≡ true
-bytes_same a = (bytes_eq-Decides a a).1 refl
-
 pub different_before : (ns : List (List ℕ)) (i : ℕ) → AreDifferent ns → i < length ns → NoneBefore ns (get_or ns i []) i
 different_before ns i d l j h = not_equal (get_or ns i []) (get_or ns j []) (λ e. d j i h l (sym e))
   where
@@ -215,7 +213,7 @@ printed_by p place h finds =
 
 pub printed : (p : Proc) → IsWritable p → IsPrinted p
 printed p h =
-    let d = printed_by p (place_in (text_of p) p.names) h (finds_names (text_of p) p.names h.different) in
+    let d = printed_by p (place_in (text_of p) p.names) h (finds_names (text_of p) p.names (distinct_different p.names h.different)) in
     record {
       has = record {
         tokens = d.tokens;

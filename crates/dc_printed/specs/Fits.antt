@@ -1,5 +1,7 @@
 -- What a procedure must be to have a text: its names can be written, and its places and numbers are in range.
 use Rattle.std.specs.Prelude.{◌≡◌, ℕ, ◌<◌, ◌≤◌, Bool, true, ◌&&◌, nat_lt, nat_le, List, [], ◌∷◌, length, map, slice_index_or}
+use Rattle.std.specs.Str.{bytes_eq}
+use Rattle.std.specs.List.{IsDistinct}
 use Rattle.dc_tokens.specs.declared.token.TokenKind.TheVariants as k
 use Rattle.dc_tokens.specs.Spelling.{is_word, word_kind}
 use Rattle.dc_syntax.specs.declared.tree.Expr.{Expr, Expr-F, fold-Expr}
@@ -9,6 +11,7 @@ use Rattle.dc_syntax.specs.declared.tree.Cond.TheOpen as G
 use Rattle.dc_syntax.specs.declared.tree.Proc.{Proc}
 use Rattle.dc_syntax.specs.declared.tree.Stmt.{Stmt, Stmt-F, fold-Stmt}
 use Rattle.dc_syntax.specs.declared.tree.Stmt.TheOpen.{Skip, Assign, AnyOf, Between, Tick, Assume, If, IfAny, While, WhileAny}
+use Rattle.dc_affine.specs.Whole.{each}
 
 -- a name: a letter or `_`, then letters, digits and `_`, and no keyword
 pub record IsName (w : List ℕ) : Type 0 where
@@ -38,10 +41,6 @@ cond_fits_step n (G.Or c d) = c && d
 abbrev pub cond_fits : ℕ → Cond → Bool
 cond_fits n c = fold-Cond Bool (cond_fits_step n) c
 
-abbrev pub each : List Bool → Bool
-each [] = true
-each (b ∷ bs) = b && each bs
-
 abbrev pub stmt_fits_step : ℕ → Stmt-F Bool → Bool
 stmt_fits_step n Skip = true
 stmt_fits_step n (Assign k e) = nat_lt k n && fits n e
@@ -63,14 +62,10 @@ stmts_fit n A = each (map (stmt_fits n) A)
 abbrev pub AreNames : List (List ℕ) → Type 0
 AreNames names = (i : ℕ) → i < length names → IsName (slice_index_or names i [])
 
--- no name stands at two places
-abbrev pub AreDifferent : List (List ℕ) → Type 0
-AreDifferent names = (i j : ℕ) → i < j → j < length names → slice_index_or names i [] ≡ slice_index_or names j [] → ⊥
-
 -- a procedure that has a text
 pub record IsWritable (p : Proc) : Type 0 where
   pub name : IsName p.name
   pub names : AreNames p.names
-  pub different : AreDifferent p.names
+  pub different : IsDistinct bytes_eq p.names
   pub params : p.params ≤ length p.names
   pub body : stmts_fit (length p.names) p.body ≡ true

@@ -10,6 +10,28 @@ use Rattle.dc_words.specs.Taken.{takes_line, line_rows, number_of}
 use Rattle.dc_words.specs.declared.Words.{Words}
 use Rattle.dc_words.specs.declared.Words.TheVariants.{Analyse, Check, Sample}
 
+-- ---- readings
+
+-- how a bound is sought
+pub record Search : Type 0 where
+  pub degree : ℕ
+  pub products : ℕ
+  pub pairs : Bool
+  pub pivots : ℕ
+
+-- what words ask for, in bytes and numbers: a command with its arguments
+pub data Reading : Type 0 where
+  for_analyse : (new old : Text) (when : Option Text) (search : Search) → Reading
+  for_check : (new old cert : Text) (when : Option Text) → Reading
+  for_sample : (seed count : ℕ) → Reading
+
+-- of a value of the program
+abbrev pub reading_of : Words → Reading
+reading_of (Analyse new_name old_name when degree products pairs pivots) =
+    for_analyse (string_bytes new_name) (string_bytes old_name) (option_map string_bytes when) (record { degree = degree; products = products; pairs = pairs; pivots = pivots })
+reading_of (Check new_name old_name cert_name when) = for_check (string_bytes new_name) (string_bytes old_name) (string_bytes cert_name) (option_map string_bytes when)
+reading_of (Sample seed count) = for_sample seed count
+
 -- ---- which words have a reading
 
 -- the `clap` command of the first word
@@ -43,37 +65,41 @@ pub record IsSettings (rows : List Row) (degree products : ℕ) (pairs : Bool) (
 
 -- ---- what the matches of a command ask for
 
-abbrev pub IsAnalyse : List Row → Words → Type 0
-IsAnalyse rows (Analyse new_name old_name when degree products pairs pivots) =
-    (first_of (codes "NEW") rows ≡ Some (string_bytes new_name))
-    × (first_of (codes "OLD") rows ≡ Some (string_bytes old_name))
-    × (first_of (codes "when") rows ≡ option_map string_bytes when)
-    × IsSettings rows degree products pairs pivots
+abbrev pub IsAnalyse : List Row → Reading → Type 0
+IsAnalyse rows (for_analyse new old when s) =
+    (first_of (codes "NEW") rows ≡ Some new)
+    × (first_of (codes "OLD") rows ≡ Some old)
+    × (first_of (codes "when") rows ≡ when)
+    × IsSettings rows s.degree s.products s.pairs s.pivots
 IsAnalyse rows _ = ⊥
 
-abbrev pub IsCheck : List Row → Words → Type 0
-IsCheck rows (Check new_name old_name cert_name when) =
-    (first_of (codes "NEW") rows ≡ Some (string_bytes new_name))
-    × (first_of (codes "OLD") rows ≡ Some (string_bytes old_name))
-    × (first_of (codes "CERT") rows ≡ Some (string_bytes cert_name))
-    × (first_of (codes "when") rows ≡ option_map string_bytes when)
+abbrev pub IsCheck : List Row → Reading → Type 0
+IsCheck rows (for_check new old cert when) =
+    (first_of (codes "NEW") rows ≡ Some new)
+    × (first_of (codes "OLD") rows ≡ Some old)
+    × (first_of (codes "CERT") rows ≡ Some cert)
+    × (first_of (codes "when") rows ≡ when)
 IsCheck rows _ = ⊥
 
-abbrev pub IsSample : List Row → Words → Type 0
-IsSample rows (Sample seed count) =
+abbrev pub IsSample : List Row → Reading → Type 0
+IsSample rows (for_sample seed count) =
     IsNumberIn 0 2147483647 (codes "SEED") rows seed × IsNumberIn 1 8 (codes "COUNT") rows count
 IsSample rows _ = ⊥
 
 -- ---- the reading
 
 -- a command of this name takes the words, and they ask for what its matches say
-pub record IsLine (name : Text) (app : App) (IsAsked : List Row → Words → Type 0) (words : List Text) (read : Words) : Type 0 where
+pub record IsLine (name : Text) (app : App) (IsAsked : List Row → Reading → Type 0) (words : List Text) (read : Reading) : Type 0 where
   pub named : slice_get words 0 ≡ Some name
   pub taken : takes_line app words ≡ true
   pub asked : IsAsked (line_rows app words) read
 
--- what the words ask for
-abbrev pub IsReading : List Text → Words → Type 0
+-- what the words ask for, command by command
+abbrev pub IsReading : List Text → Reading → Type 0
 IsReading words read = IsLine (codes "analyse") analyse IsAnalyse words read
     ⊎ (IsLine (codes "check") check IsCheck words read
     ⊎ IsLine (codes "sample") sample IsSample words read)
+
+-- the words have one reading at most
+abbrev pub HaveOneReading : List Text → Type 0
+HaveOneReading words = (a b : Reading) → IsReading words a → IsReading words b → a ≡ b

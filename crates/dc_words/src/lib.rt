@@ -6,10 +6,11 @@
 
 ghost use Rattle.std.specs.Prelude.{◌≡◌, IfOk, IsErrOf, map, true, false};
 ghost use Rattle.std.specs.String.{string_bytes};
-ghost use Rattle.dc_words.specs.Reading.{takes_words, IsReading};
+ghost use Rattle.dc_words.specs.Reading.{takes_words, reading_of, IsReading};
 
 mod arguments;
 mod commands;
+pub mod laws;
 mod matching;
 mod reading;
 
@@ -80,7 +81,8 @@ impl From<AllocError> for WordsFault {
     }
 }
 
-/// Reads the words after the program's name.
+/// Reads the words after the program's name. Contracts see the reading as bytes and numbers
+/// (`reading_of`), of which the words have one at most.
 ///
 /// # Errors
 ///
@@ -89,7 +91,7 @@ impl From<AllocError> for WordsFault {
 /// nowhere else.
 pub fn read_words(alloc: Global, words: &Vec<String>) -> Result<Words, WordsFault>
     ensures taken { IfOk result (λ w. takes_words (map string_bytes words.now.items) ≡ true) }
-    ensures reading { IfOk result (λ w. IsReading (map string_bytes words.now.items) w) }
+    ensures reading { IfOk result (λ w. IsReading (map string_bytes words.now.items) (reading_of w)) }
     ensures usage { IsErrOf result WordsFault.Usage → takes_words (map string_bytes words.now.items) ≡ false }
 {
     let Some(first) = words.first() else {

@@ -6,7 +6,7 @@ ghost use Rattle.clap.specs.Walk.{rows_of};
 ghost use Rattle.dc_words.specs.Rules.{Lent, IsRowNames, settings_rules, analyse, check, sample};
 ghost use Rattle.dc_words.specs.Held.{IsFilled};
 ghost use Rattle.dc_words.specs.Taken.{takes_line, line_rows};
-ghost use Rattle.dc_words.specs.Reading.{IsSettings, IsAnalyse, IsCheck, IsSample, IsLine};
+ghost use Rattle.dc_words.specs.Reading.{reading_of, IsSettings, IsAnalyse, IsCheck, IsSample, IsLine};
 
 use crate::matching::{
     is_value, matches_of, number_u8, number_u32, number_u64, text, text_if_given,
@@ -17,7 +17,7 @@ use std::alloc::Global;
 
 /// `analyse NEW OLD` with its options.
 pub fn read_analyse(alloc: Global, words: &[String]) -> Result<Words, WordsFault>
-    ensures ok { IfOk result (λ w. (takes_line analyse (map string_bytes words.now) ≡ true) × IsAnalyse (line_rows analyse (map string_bytes words.now)) w) }
+    ensures ok { IfOk result (λ w. (takes_line analyse (map string_bytes words.now) ≡ true) × IsAnalyse (line_rows analyse (map string_bytes words.now)) (reading_of w)) }
     ensures usage { IsErrOf result WordsFault.Usage → takes_line analyse (map string_bytes words.now) ≡ false }
 {
     let matches = matches_of(commands::analyse(alloc)?, words)?;
@@ -35,7 +35,7 @@ pub fn read_analyse(alloc: Global, words: &[String]) -> Result<Words, WordsFault
 
 /// `check NEW OLD CERT` with its option.
 pub fn read_check(alloc: Global, words: &[String]) -> Result<Words, WordsFault>
-    ensures ok { IfOk result (λ w. (takes_line check (map string_bytes words.now) ≡ true) × IsCheck (line_rows check (map string_bytes words.now)) w) }
+    ensures ok { IfOk result (λ w. (takes_line check (map string_bytes words.now) ≡ true) × IsCheck (line_rows check (map string_bytes words.now)) (reading_of w)) }
     ensures usage { IsErrOf result WordsFault.Usage → takes_line check (map string_bytes words.now) ≡ false }
 {
     let matches = matches_of(commands::check(alloc)?, words)?;
@@ -49,7 +49,7 @@ pub fn read_check(alloc: Global, words: &[String]) -> Result<Words, WordsFault>
 
 /// `sample SEED COUNT`.
 pub fn read_sample(alloc: Global, words: &[String]) -> Result<Words, WordsFault>
-    ensures ok { IfOk result (λ w. (takes_line sample (map string_bytes words.now) ≡ true) × IsSample (line_rows sample (map string_bytes words.now)) w) }
+    ensures ok { IfOk result (λ w. (takes_line sample (map string_bytes words.now) ≡ true) × IsSample (line_rows sample (map string_bytes words.now)) (reading_of w)) }
     ensures usage { IsErrOf result WordsFault.Usage → takes_line sample (map string_bytes words.now) ≡ false }
 {
     let matches = matches_of(commands::sample(alloc)?, words)?;

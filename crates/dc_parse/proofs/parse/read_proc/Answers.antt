@@ -4,7 +4,8 @@ use Rattle.dc_grammar.specs.Language.{source}
 use Rattle.dc_parse.specs.Judges.{judge_source}
 use Rattle.dc_parse.specs.Answers.{SourceOutcome}
 use Rattle.dc_parse.proofs.Naming.{GoodNames}
-use Rattle.dc_parse.proofs.Assembled.{Faulty, handed_on, bad_bytes, bad_grammar, Seen, Named, bad_names, good_names, source_below, bad_forms, source_says, source_program}
+use Rattle.dc_parse.proofs.Assembled.{Faulty, handed_on, bad_bytes, bad_grammar, Seen, Named, bad_names, good_names, source_below, bad_forms, source_says}
+use Rattle.dc_parse.proofs.Said.{source_is_program}
 use Rattle.dc_parse.proofs.parse.read_proc.Goals as goal
 
 pub returns-in_err-tokens-clause-fault : goal.returns-in_err-tokens-clause-fault
@@ -16,7 +17,7 @@ returns-in_err-source-clause-fault c = handed_on (Faulty (SourceOutcome c.args.t
 pub returns-in-Some-clause-fault : goal.returns-in-Some-clause-fault
 returns-in-Some-clause-fault c =
     let s : Seen c.args.text.now c.as_slice.result.now c.in_ok-source.ensures.0 c.in_ok-source.source = record { short = c.requires.short; spelled = subst (Tokens 0 c.args.text.now) (sym c.as_slice.ensures.value) c.in_ok-tokens.ensures.tokens; found = c.in_ok-source.ensures.1; source = c.in_ok-source.ensures.2 } in
-    bad_names c.args.text.now c.as_slice.result.now c.in_ok-source.ensures.0 c.in_ok-source.source s c.in-Some.fault c.in-Some.is
+    subst (Faulty (SourceOutcome c.args.text.now)) (sym c.raise.ensures) (bad_names c.args.text.now c.as_slice.result.now c.in_ok-source.ensures.0 c.in_ok-source.source s c.in-Some.fault c.in-Some.is)
 
 pub judge_all-requires-clause-few : goal.judge_all-requires-clause-few
 judge_all-requires-clause-few c =
@@ -43,7 +44,4 @@ returns-clause-says c =
     source_says c.args.text.now c.as_slice.result.now c.in_ok-source.ensures.0 c.in_ok-source.source n c.len.result c.as_slice-3.result.now c.as_slice-2.result.now c.len.ensures c.as_slice-3.ensures c.as_slice-2.ensures.value c.in_ok-judge_all.ensures.0 _ (c.new.ensures ∙ (c.in_ok-name.ensures ∙ c.spelling.ensures)) refl refl refl
 
 pub returns-clause-program : goal.returns-clause-program
-returns-clause-program c =
-    let s : Seen c.args.text.now c.as_slice.result.now c.in_ok-source.ensures.0 c.in_ok-source.source = record { short = c.requires.short; spelled = subst (Tokens 0 c.args.text.now) (sym c.as_slice.ensures.value) c.in_ok-tokens.ensures.tokens; found = c.in_ok-source.ensures.1; source = c.in_ok-source.ensures.2 } in
-    let n : Named c.args.text.now c.as_slice.result.now c.in_ok-source.ensures.0 c.in_ok-source.source = record { seen = s; good = c.in_default.is } in
-    source_program c.args.text.now c.as_slice.result.now c.in_ok-source.ensures.0 c.in_ok-source.source n c.len.result c.as_slice-3.result.now c.as_slice-2.result.now c.len.ensures c.as_slice-3.ensures c.in_ok-judge_all.ensures.0 _ refl refl refl
+returns-clause-program c = source_is_program c.args.text.now _ (returns-clause-says c)

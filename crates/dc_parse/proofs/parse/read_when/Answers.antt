@@ -24,7 +24,8 @@ returns-in_err-condition-clause-fault c = handed_on (Faulty (ConditionOutcome (p
 pub returns-in-Some-clause-fault : goal.returns-in-Some-clause-fault
 returns-in-Some-clause-fault c =
     let s : Told (params_of c.args.p.now) c.args.text.now c.as_slice.result.now c.in_ok-condition.ensures.0 c.in_ok-condition.condition = record { short = c.requires.short; spelled = subst (Tokens 0 c.args.text.now) (sym c.as_slice.ensures.value) c.in_ok-tokens.ensures.tokens; found = c.in_ok-condition.ensures.1; said = ap (λ z. cond_of (place_in c.args.text.now z) c.in_ok-condition.ensures.0) (sym c.params.ensures) ∙ c.in_ok-condition.ensures.2 } in
-    bad_use (params_of c.args.p.now) c.args.text.now c.as_slice.result.now c.in_ok-condition.ensures.0 c.in_ok-condition.condition s c.in-Some.fault (ap (λ z. used_fault c.args.text.now z c.as_slice.result.now) (sym c.params.ensures) ∙ (ap (used_fault c.args.text.now (map string_bytes c.params.result.now)) (c.as_slice.ensures.value ∙ sym c.as_slice-2.ensures.value) ∙ (sym c.first_unknown.ensures ∙ c.in-Some.is)))
+    subst (Faulty (ConditionOutcome (params_of c.args.p.now) c.args.text.now)) (sym c.raise.ensures)
+    (bad_use (params_of c.args.p.now) c.args.text.now c.as_slice.result.now c.in_ok-condition.ensures.0 c.in_ok-condition.condition s c.in-Some.fault (ap (λ z. used_fault c.args.text.now z c.as_slice.result.now) (sym c.params.ensures) ∙ (ap (used_fault c.args.text.now (map string_bytes c.params.result.now)) (c.as_slice.ensures.value ∙ sym c.as_slice-2.ensures.value) ∙ (sym c.first_unknown.ensures ∙ c.in-Some.is))))
 
 pub dnf-requires-clause-below : goal.dnf-requires-clause-below
 dnf-requires-clause-below c =
