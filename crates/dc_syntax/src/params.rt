@@ -1,5 +1,5 @@
 //! The parameters of a procedure.
-ghost use Rattle.dc_syntax.specs.Params.{params_of};
+ghost use Rattle.dc_syntax.specs.Params.{HaveSameParams};
 ghost use Rattle.std.specs.Prelude.{◌≡◌, ◌↔◌, IsTrue, map, take, drop};
 ghost use Rattle.std.specs.String.{string_bytes};
 
@@ -33,7 +33,7 @@ pub(crate) fn later_names(names: &Names, count: usize) -> &[String]
 
 /// Whether two procedures have equal numbers of parameters and equal names of them, in order.
 pub fn same_params(a: &Proc, b: &Proc) -> bool
-    ensures { IsTrue result ↔ ((a.now.params ≡ b.now.params) × (params_of a.now ≡ params_of b.now)) }
+    ensures { IsTrue result ↔ HaveSameParams a.now b.now }
 {
     a.params == b.params && first_names(&a.names, a.params) == first_names(&b.names, b.params)
 }
