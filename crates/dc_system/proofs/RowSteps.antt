@@ -13,7 +13,7 @@ use Rattle.dc_poly.proofs.Values.{coef-plus}
 use Rattle.dc_poly.proofs.Canon.{canonical_unique}
 use Rattle.dc_poly.proofs.Degrees.{degree-times, degree-constant}
 use Rattle.dc_poly.proofs.Sizes.{weight-plus, weight-times, weight-constant, mul_both}
-use Rattle.dc_affine.specs.Forms.{most}
+use Rattle.dc_poly.specs.NormalForm.{most}
 use Rattle.dc_affine.proofs.Units.{units_push, units_done}
 use Rattle.dc_system.specs.declared.edges.Edge.{Edge}
 use Rattle.dc_system.specs.declared.rows.RowAfter.{RowAfter}

@@ -7,7 +7,7 @@ ghost use Rattle.dc_poly.specs.Terms.{coef as coef_of};
 ghost use Rattle.dc_poly.specs.Sums.{unit_at, values as values_at, zeros};
 ghost use Rattle.dc_poly.specs.Sums.{constant as constant_form};
 ghost use Rattle.dc_poly.specs.Affine.{units};
-ghost use Rattle.dc_affine.specs.Forms.{most};
+ghost use Rattle.dc_poly.specs.NormalForm.{most};
 ghost use Rattle.dc_affine.specs.Atoms.{AllFit};
 ghost use Rattle.dc_system.specs.After.{row_after_of, weighted};
 ghost use Rattle.dc_system.specs.Shapes.{IsEdge, IsForm};
@@ -106,7 +106,12 @@ fn coefficients(alloc: Global, form: &Poly) -> Result<Vec<i128>, AllocError>
 /// It is affine after the update where its value is, as a whole: x - y is affine after x := n * n, y := n * n, though its parts are not.
 /// The constant and the coefficients are those of the sum, in 128 bits. An atom after the update is the form of its coefficients after it,
 /// with the atom's constant added.
-pub fn row_after(alloc: Global, edge: &Edge, row: &[i64], vars: usize) -> Result<RowAfter, AllocError>
+pub fn row_after(
+    alloc: Global,
+    edge: &Edge,
+    row: &[i64],
+    vars: usize,
+) -> Result<RowAfter, AllocError>
     requires few { vars ≤ 10 }
     requires edge { IsEdge vars edge.now }
     requires short { length row.now ≤ vars }
