@@ -22,8 +22,7 @@ use Rattle.dc_cli.specs.declared.refusal.Wrong.TheVariants.{Parse, ParametersDif
 use Rattle.dc_cli.specs.declared.refusal.Refusal.{Refusal}
 use Rattle.dc_cli.specs.declared.refusal.Refusal.TheVariants.{Usage, Unread, Source, Unwritten, NoMemory}
 use Rattle.dc_cli.specs.Words.{names_in}
-use Rattle.dc_syntax.specs.Params.{HaveSameParams}
-use Rattle.dc_cli.specs.Answer.{text_limit, Says, IsPlainPair, IsAnswer, Succeeds}
+use Rattle.dc_cli.specs.Answer.{text_limit, Says, SameParams, IsPlainPair, IsAnswer, Succeeds}
 use Rattle.dc_cli.specs.Causes.{IsUnread, IsFirstUnread, IsFirstFault}
 use Rattle.dc_cli.specs.Due.{Tells, IsMissing, HasFault, HasAnswer}
 use Rattle.dc_cli.specs.Lines.{status_of}
@@ -131,7 +130,7 @@ module _ (words : List (List ℕ)) (files : Option Files) (before now : ℕ) (wr
   first-never New x y (Parse f) a h = fault-not x a.new f.line f.col f.kind h.stated h.other a.new_said
   first-never Old x y (Parse f) a h = fault-not y a.old f.line f.col f.kind h.1.stated h.1.other a.old_said
   first-never side x y ParametersDiffer a (e, (p, q, s, t, n)) =
-      n (subst (λ z. HaveSameParams p z) (says-same y a.old q a.old_said t) (subst (λ z. HaveSameParams z a.old) (says-same x a.new p a.new_said s) a.agree))
+      n (subst (λ z. SameParams p z) (says-same y a.old q a.old_said t) (subst (λ z. SameParams z a.old) (says-same x a.new p a.new_said s) a.agree))
   first-never New x y NotPlain a (p, q, s, t, m, n) = n (subst IsPlain (says-same x a.new p a.new_said s) a.new_plain)
   first-never Old x y NotPlain a (p, q, s, t, m, l, n) = n (subst IsPlain (says-same y a.old q a.old_said t) a.old_plain)
 

@@ -8,8 +8,7 @@ use Rattle.dc_syntax.specs.declared.tree.Stmt.{Stmt}
 use Rattle.dc_syntax.specs.Costs.{Costs, start_of}
 use Rattle.dc_syntax.specs.Plain.{plain_cost, HasPlainCost, IsPlain}
 use Rattle.dc_syntax.proofs.PlainRuns.{plain-Run, plain-costs_differ}
-use Rattle.dc_syntax.specs.Params.{HaveSameParams}
-use Rattle.dc_cli.specs.Answer.{text_limit, lines_of, Says, IsThreshold, IsAnswer}
+use Rattle.dc_cli.specs.Answer.{text_limit, lines_of, Says, SameParams, IsThreshold, IsAnswer}
 
 -- ---- the answer
 abbrev pub IsDifference : Proc → Proc → ℤ → Type 0
@@ -48,7 +47,7 @@ threshold-of p q a b t h k m d = record {
 
 pub answer-of : (files after : Option Files) (new old nt ot x y : List ℕ) (p q : Proc) (t : ℤ) (out : List ℕ)
     → IsTextOf files new text_limit nt → after ≡ files → IsTextOf after old text_limit ot
-    → x ≡ nt → y ≡ ot → Says x p → Says y q → HaveSameParams p q → IsPlain p → IsPlain q → IsDifference p q t → out ≡ lines_of t → IsAnswer files new old out
+    → x ≡ nt → y ≡ ot → Says x p → Says y q → SameParams p q → IsPlain p → IsPlain q → IsDifference p q t → out ≡ lines_of t → IsAnswer files new old out
 answer-of files after new old nt ot x y p q t out h e k u v m n s a b d l =
     let i : _ = cost_of p.body a in
     let j : _ = cost_of q.body b in

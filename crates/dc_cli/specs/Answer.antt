@@ -6,7 +6,7 @@ use Rattle.dc_host.specs.Outside.{Files, IsTextOf, appended}
 use Rattle.dc_syntax.specs.declared.tree.Proc.{Proc}
 use Rattle.dc_syntax.specs.Value.{State}
 use Rattle.dc_syntax.specs.Costs.{Costs}
-use Rattle.dc_syntax.specs.Params.{HaveSameParams}
+use Rattle.dc_syntax.specs.Params.{params_of}
 use Rattle.dc_syntax.specs.Plain.{HasPlainCost, IsPlain}
 use Rattle.dc_parse.specs.Outcomes.{says}
 use Rattle.dc_parse.specs.Answers.{SourceOutcome}
@@ -35,13 +35,17 @@ pub record IsThreshold (new old : Proc) (t : ℤ) : Type 0 where
 abbrev pub Says : List ℕ → Proc → Type 0
 Says text p = SourceOutcome text (says p)
 
+-- two procedures have the same parameters, in order
+abbrev pub SameParams : Proc → Proc → Type 0
+SameParams p q = (p.params ≡ q.params) × (params_of p ≡ params_of q)
+
 -- two texts say plain programs with the same parameters
 pub record IsPlainPair (x y : List ℕ) : Type 0 where
   pub new : Proc
   pub old : Proc
   pub new_said : Says x new
   pub old_said : Says y old
-  pub agree : HaveSameParams new old
+  pub agree : SameParams new old
   pub new_plain : IsPlain new
   pub old_plain : IsPlain old
 

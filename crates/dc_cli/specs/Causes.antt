@@ -16,8 +16,7 @@ use Rattle.dc_cli.specs.declared.refusal.Wrong.TheVariants.{Parse, ParametersDif
 use Rattle.dc_cli.specs.declared.refusal.Refusal.{Refusal}
 use Rattle.dc_cli.specs.declared.refusal.Refusal.TheVariants.{Usage, Unread, Source, Unwritten, NoMemory}
 use Rattle.dc_cli.specs.Words.{names_in}
-use Rattle.dc_syntax.specs.Params.{HaveSameParams}
-use Rattle.dc_cli.specs.Answer.{text_limit, Says, IsAnswer}
+use Rattle.dc_cli.specs.Answer.{text_limit, Says, SameParams, IsAnswer}
 
 -- a text was handed out for a name
 abbrev pub IsHandedOut : Option Files → List ℕ → Type 0
@@ -42,9 +41,9 @@ pub record IsFaultOf (text : List ℕ) (fault : ParseFault) : Type 0 where
 abbrev pub IsFirstFault : Side → List ℕ → List ℕ → Wrong → Type 0
 IsFirstFault New x y (Parse fault) = IsFaultOf x fault
 IsFirstFault Old x y (Parse fault) = ((p : Proc) × Says x p) × IsFaultOf y fault
-IsFirstFault side x y ParametersDiffer = (side ≡ Old) × ((p : Proc) × (q : Proc) × Says x p × Says y q × (HaveSameParams p q → ⊥))
-IsFirstFault New x y NotPlain = (p : Proc) × (q : Proc) × Says x p × Says y q × HaveSameParams p q × (IsPlain p → ⊥)
-IsFirstFault Old x y NotPlain = (p : Proc) × (q : Proc) × Says x p × Says y q × HaveSameParams p q × IsPlain p × (IsPlain q → ⊥)
+IsFirstFault side x y ParametersDiffer = (side ≡ Old) × ((p : Proc) × (q : Proc) × Says x p × Says y q × (SameParams p q → ⊥))
+IsFirstFault New x y NotPlain = (p : Proc) × (q : Proc) × Says x p × Says y q × SameParams p q × (IsPlain p → ⊥)
+IsFirstFault Old x y NotPlain = (p : Proc) × (q : Proc) × Says x p × Says y q × SameParams p q × IsPlain p × (IsPlain q → ⊥)
 
 -- both texts were handed out, and this is wrong first, with that of `side`
 pub record IsFaulty (files : Option Files) (new old : List ℕ) (side : Side) (wrong : Wrong) : Type 0 where
@@ -90,7 +89,7 @@ Unparsed side text _ = ⊥
 
 -- what a step refuses that compares two programs
 abbrev pub Unpaired : Proc → Proc → Refusal → Type 0
-Unpaired p q (Source at ParametersDiffer) = (at ≡ Old) × (HaveSameParams p q → ⊥)
-Unpaired p q (Source New NotPlain) = HaveSameParams p q × (IsPlain p → ⊥)
-Unpaired p q (Source Old NotPlain) = HaveSameParams p q × IsPlain p × (IsPlain q → ⊥)
+Unpaired p q (Source at ParametersDiffer) = (at ≡ Old) × (SameParams p q → ⊥)
+Unpaired p q (Source New NotPlain) = SameParams p q × (IsPlain p → ⊥)
+Unpaired p q (Source Old NotPlain) = SameParams p q × IsPlain p × (IsPlain q → ⊥)
 Unpaired p q _ = ⊥

@@ -4,8 +4,7 @@ ghost use Rattle.std.specs.String.{string_bytes};
 ghost use Rattle.dc_syntax.specs.Plain.{plain_cost, IsPlain};
 ghost use Rattle.dc_host.specs.Outside.{IsTextOf};
 ghost use Rattle.dc_cli.specs.Words.{names_in as names_of};
-ghost use Rattle.dc_syntax.specs.Params.{HaveSameParams};
-ghost use Rattle.dc_cli.specs.Answer.{text_limit, lines_of, Says, IsAnswer};
+ghost use Rattle.dc_cli.specs.Answer.{text_limit, lines_of, Says, SameParams, IsAnswer};
 ghost use Rattle.dc_cli.specs.Causes.{IsUnreadOf, Unfetched, Unparsed, Unpaired, Refused};
 
 use crate::cost::cost_of;
@@ -84,7 +83,7 @@ fn tree_of(alloc: Global, side: Side, text: &[u8]) -> Result<Proc, Refusal>
 
 /// Refuses two programs whose parameters differ, or one that isn't plain, the new one before the old one.
 fn pair_plain(new: &Proc, old: &Proc) -> Result<(), Refusal>
-    ensures agree { OnOk result (HaveSameParams new.now old.now) }
+    ensures agree { OnOk result (SameParams new.now old.now) }
     ensures new_plain { OnOk result (IsPlain new.now) }
     ensures old_plain { OnOk result (IsPlain old.now) }
     ensures refused { IfErr result (Unpaired new.now old.now) }

@@ -136,25 +136,11 @@ const SQUARES: Row = Row {
 ",
 };
 
-const LARGE: Row = Row {
-    source: "proc f(n) { var x, y; x = 2147483647*n; y = 2147483647*x; tick 2147483647*y*y; }",
-    built: "3 variables, 1 parameters, 4 locations, literals 2147483647
-0 to 1, n = 1n, x = 2147483647n, y = 1y, cost
-1 to 2, n = 1n, x = 1x, y = 2147483647x, cost
-2 to 3, n = 1n, x = 1x, y = 1y, cost 2147483647yy
-",
-    folded: "3 variables, 1 parameters, 4 locations, literals 2147483647
-0 to 1, n = 1n, x = 2147483647n, y = 1y, cost
-1 to 2, n = 1n, x = 1x, y = 2147483647x, cost
-2 to 3, n = 1n, x = 1x, y = 1y, cost 2147483647yy
-",
-};
-
 #[test]
 fn builds_and_folds(rt: HostRuntime) -> Result<(), Fail> {
     let alloc = rt.alloc();
     for row in [
-        LOOP, EMPTY, NESTED, NO_ELSE, FREE_LOOPS, CHOSEN, CHAIN, SQUARES, LARGE,
+        LOOP, EMPTY, NESTED, NO_ELSE, FREE_LOOPS, CHOSEN, CHAIN, SQUARES,
     ] {
         let p = parse_proc(alloc, row.source.as_bytes())?;
         let names = p.names.as_slice();
