@@ -1,5 +1,5 @@
 -- Affine atoms, the conjunctions of a condition as atoms, and the first fault of a condition.
-use Rattle.std.specs.Prelude.{◌≡◌, ℕ, ◌≤◌, Bool, true, false, ◌&&◌, ◌||◌, ltb, if◌then◌else◌, List, [], ◌∷◌, map, length, ℤ, pos, ◌+ℤ◌, ◌-ℤ◌, int_le, unsigned_abs, Some, None}
+use Rattle.std.specs.Prelude.{◌≡◌, ℕ, ◌≤◌, Bool, true, false, ◌&&◌, ◌||◌, ltb, if◌then◌else◌, List, [], ◌∷◌, map, length, ℤ, pos, ◌+ℤ◌, ◌*ℤ◌, ◌-ℤ◌, int_le, unsigned_abs, Some, None}
 use Rattle.std.specs.declared.option.Option.{Option}
 use Rattle.std.specs.declared.vec.Vec.{Vec}
 use Rattle.std.specs.declared.alloc.Global.{Global}
@@ -23,6 +23,10 @@ use Rattle.dc_affine.specs.Table.{Fact, facts_of}
 -- its left side at a point: a missing coefficient, and a missing coordinate, is 0
 abbrev pub atom_value : Atom → List ℤ → ℤ
 atom_value a x = a.c0 +ℤ dot_ℤ a.coefs x
+
+-- and at the rational point x / q, times q
+abbrev pub scaled_value : Atom → ℤ → List ℤ → ℤ
+scaled_value a q x = a.c0 *ℤ q +ℤ dot_ℤ a.coefs x
 
 abbrev pub holds_at : Atom → List ℤ → Bool
 holds_at a x = int_le (pos 0) (atom_value a x)

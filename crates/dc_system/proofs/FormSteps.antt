@@ -14,7 +14,7 @@ use Rattle.dc_system.specs.Composed.{forms_at, form_fits, forms_fit}
 use Rattle.dc_system.specs.Small.{AreValues}
 use Rattle.dc_system.proofs.Weights.{light_form}
 
-form_light : (m : ℕ) (p : Polynomial) → IsForm m p → weight p.terms ≤ 78 * most
+pub form_light : (m : ℕ) (p : Polynomial) → IsForm m p → weight p.terms ≤ 78 * most
 form_light m p h = light_form p.places p.terms h.kind.few h.kind.in_order h.kind.padded h.narrow
 
 have_places : (m : ℕ) (vs : List Polynomial) → AllByRecursion (IsForm m) vs → HavePlaces m vs

@@ -35,3 +35,8 @@ pub mod Onlies
 pub mod Spotting
 pub mod FoldSteps
 pub mod OneFold
+pub mod AfterValues
+pub mod EveryFold
+pub mod CostPaths
+pub mod RowSteps
+pub mod Examples

@@ -1,5 +1,6 @@
 -- New numbers for the locations that are left keep the paths; and the laws of a folded system.
-use Rattle.std.specs.Prelude.{◌≡◌, ◌↔◌, ◌⊎◌, ℕ, suc, ◌-◌, ◌≤◌, ◌<◌, not, eqb, if◌then◌else◌, List, [], ◌∷◌, map, length, ℤ, pos, None, refl}
+use Rattle.std.specs.Prelude.{◌≡◌, ◌↔◌, ◌⊎◌, ℕ, suc, ◌-◌, ◌≤◌, ◌<◌, not, eqb, if◌then◌else◌, List, [], ◌∷◌, map, length, ℤ, pos, Some, None, refl}
+use Rattle.std.specs.List.{AllByRecursion}
 use Rattle.std.proofs.Common.{sym, ◌∙◌, ap, subst, arith, inl, inr}
 use Rattle.std.proofs.lemmas.Bool.{ne_eqb}
 use Rattle.dc_syntax.specs.declared.tree.Proc.{Proc}
@@ -12,7 +13,7 @@ use Rattle.dc_system.specs.Systems.{system_of, size_fault}
 use Rattle.dc_program.specs.Programs.{IsProgram}
 use Rattle.dc_system.specs.Paths.{Step, Path, here, along}
 use Rattle.dc_system.specs.Shapes.{IsUnchosen, IsEdge, IsWithin, IsWellFormed}
-use Rattle.dc_system.specs.Folded.{folded, without, Folding, unfolded, fold_least, numbers_below, number_in, renumbered, IsFolded}
+use Rattle.dc_system.specs.Folded.{fold_at, folded, without, Folding, unfolded, fold_least, numbers_below, number_in, renumbered, IsFolded}
 use Rattle.dc_system.specs.Spots.{Between, IsLast, Net}
 use Rattle.dc_system.specs.Laws.{Through}
 use Rattle.dc_system.proofs.Lists.{each_among, among_each, among_map, Mapped, mapped_among}
@@ -40,6 +41,16 @@ to_old left es b {s = s} k y u v e f (along {m = m} {c = c} g z i q w p) =
     let o : h.of.from ≡ k = number_same left h.of.from k (b h.of h.among).0 u (ap (λ (x : Edge). x.from) (sym h.is) ∙ q ∙ e) in
     along h.of z h.among o (step_before left h.of s m z c (subst (λ x. Step x s z c m) h.is w))
     (to_old left es b h.of.to y (b h.of h.among).1 v (ap (λ (x : Edge). x.to) h.is) f p)
+
+-- new numbers change nothing but the numbers
+pub renumbered_paths : (left : List ℕ) (es : List Edge) → Between left es → (k y : ℕ) (s t : State) (a : ℤ) → Among k left → Among y left → Path (map (renumbered left) es) (number_in left k) s a (number_in left y) t ↔ Path es k s a y t
+renumbered_paths left es b k y s t a u v = ((λ p. to_old left es b k y u v refl refl p), λ p. to_new left es p)
+
+-- and one fold keeps the paths between other locations
+pub one_fold_paths : (n x : ℕ) (es : List Edge) (l : ℕ) (c : Edge) → AllByRecursion (IsEdge n) es → fold_at n x es l ≡ Some c → (s : State) (a : ℤ) (t : State) → length s ≡ n → Path (folded l c es) 0 s a x t ↔ Path es 0 s a x t
+one_fold_paths n x es l c h q s a t o =
+    let J = joined_at n x l es c q in
+    fold_paths n x l es c J (λ g i. each_among (IsEdge n) h i) 0 x s t a (λ e. J.not_entry (sym e)) (λ e. J.not_exit (sym e)) o
 
 -- ---- what foldings keep
 -- and how it compares with what it began with

@@ -6,6 +6,7 @@ pub mod Systems
 pub mod Shapes
 pub mod Paths
 pub mod Composed
+pub mod After
 pub mod Folded
 pub mod Small
 pub mod Spots

@@ -12,8 +12,10 @@ pub mod laws;
 mod literals;
 mod place;
 mod procedure;
+mod rows;
 
 pub use composition::compose;
 pub use edges::{Edge, System, SystemFault};
 pub use folding::fold;
 pub use procedure::build;
+pub use rows::{RowAfter, row_after};
