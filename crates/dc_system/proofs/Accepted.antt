@@ -13,10 +13,10 @@ use Rattle.dc_syntax.specs.Trees.{EachExpr, EachCond, AllStmts, EachStmt}
 use Rattle.dc_syntax.proofs.Inductions.{Expr-induction, Cond-induction, Stmt-induction}
 use Rattle.dc_affine.specs.Whole as whole
 use Rattle.dc_affine.specs.Whole.{FormsPass}
-use Rattle.dc_program.specs.Limits.{literals_step, literals_fit, cond_literals_step, cond_literals_fit, operators_step, operators, cond_operators_step, cond_operators, is_limited, cond_is_limited, statement_limited, limits_step, stmt_is_limited, all_limited}
+use Rattle.dc_program.specs.Limits.{literals_step, literals_fit, cond_literals_step, cond_literals_fit, operators, cond_operators, is_limited, cond_is_limited, statement_limited, limits_step, stmt_is_limited, all_limited}
 use Rattle.dc_program.specs.Programs.{IsProgram}
 use Rattle.dc_system.specs.Literals.{expr_numbers_step, expr_numbers, cond_numbers_step, cond_numbers, joined, stmt_numbers_step, stmt_numbers, numbers_of}
-use Rattle.dc_system.proofs.Operators.{expr_operators_step, expr_operators, cond_operators_step as own_cond_step, cond_operators as own_cond_operators, stmt_operators_step, stmt_operators, operators_of}
+use Rattle.dc_system.proofs.Operators.{stmt_operators_step, stmt_operators, operators_of}
 
 pub record IsAccepted (p : Proc) : Type 0 where
   pub few_names : length p.names ≤ 10
@@ -59,87 +59,63 @@ subst_small e h = subst Small (sym e) h
 subst_few : {xs ys : List ℕ} → xs ≡ ys → Few ys → Few xs
 subst_few e h = subst Few (sym e) h
 
-counted : (a b c d : ℕ) → a ≡ c → b ≡ d → 1 + (a + b) ≡ c + (1 + d)
-counted a b c d h g = omega arith
-
 -- ---- expressions
 
 abbrev ExprOf : Expr → Type 0
-ExprOf e = (literals_fit e ≡ true → Small (expr_numbers e)) × (expr_operators e ≡ operators e)
+ExprOf e = literals_fit e ≡ true → Small (expr_numbers e)
 
 expr_layer : (L : Expr-F Expr) → EachExpr ExprOf L → ExprOf (roll-Expr L)
 unfolding roll-Expr denote.Hole.Carrier.roll
-expr_layer (F.Num n) h = (
-  λ l. subst_small (fold-roll-Expr (List ℕ) expr_numbers_step (F.Num n)) (small_leb n (sym (fold-roll-Expr Bool literals_step (F.Num n)) ∙ l), tt),
-  fold-roll-Expr ℕ expr_operators_step (F.Num n) ∙ sym (fold-roll-Expr ℕ operators_step (F.Num n)),
-)
-expr_layer (F.Var i) h = (λ l. subst_small (fold-roll-Expr (List ℕ) expr_numbers_step (F.Var i)) tt, fold-roll-Expr ℕ expr_operators_step (F.Var i) ∙ sym (fold-roll-Expr ℕ operators_step (F.Var i)))
-expr_layer (F.Neg a) h = (
-  λ l. subst_small (fold-roll-Expr (List ℕ) expr_numbers_step (F.Neg a)) (h.0 (sym (fold-roll-Expr Bool literals_step (F.Neg a)) ∙ l)),
-  fold-roll-Expr ℕ expr_operators_step (F.Neg a) ∙ (ap (λ n. 1 + n) h.1 ∙ sym (fold-roll-Expr ℕ operators_step (F.Neg a))),
-)
-expr_layer (F.Add a b) h = (
-  λ l. let z : (literals_fit a && literals_fit b) ≡ true = sym (fold-roll-Expr Bool literals_step (F.Add a b)) ∙ l in
-      subst_small (fold-roll-Expr (List ℕ) expr_numbers_step (F.Add a b)) (both_small (expr_numbers a) (expr_numbers b) (h.0.0 (and_left _ _ z)) (h.1.0 (and_right _ _ z))),
-  fold-roll-Expr ℕ expr_operators_step (F.Add a b) ∙ (counted (expr_operators a) (expr_operators b) (operators a) (operators b) h.0.1 h.1.1 ∙ sym (fold-roll-Expr ℕ operators_step (F.Add a b))),
-)
-expr_layer (F.Sub a b) h = (
-  λ l. let z : (literals_fit a && literals_fit b) ≡ true = sym (fold-roll-Expr Bool literals_step (F.Sub a b)) ∙ l in
-      subst_small (fold-roll-Expr (List ℕ) expr_numbers_step (F.Sub a b)) (both_small (expr_numbers a) (expr_numbers b) (h.0.0 (and_left _ _ z)) (h.1.0 (and_right _ _ z))),
-  fold-roll-Expr ℕ expr_operators_step (F.Sub a b) ∙ (counted (expr_operators a) (expr_operators b) (operators a) (operators b) h.0.1 h.1.1 ∙ sym (fold-roll-Expr ℕ operators_step (F.Sub a b))),
-)
-expr_layer (F.Mul a b) h = (
-  λ l. let z : (literals_fit a && literals_fit b) ≡ true = sym (fold-roll-Expr Bool literals_step (F.Mul a b)) ∙ l in
-      subst_small (fold-roll-Expr (List ℕ) expr_numbers_step (F.Mul a b)) (both_small (expr_numbers a) (expr_numbers b) (h.0.0 (and_left _ _ z)) (h.1.0 (and_right _ _ z))),
-  fold-roll-Expr ℕ expr_operators_step (F.Mul a b) ∙ (counted (expr_operators a) (expr_operators b) (operators a) (operators b) h.0.1 h.1.1 ∙ sym (fold-roll-Expr ℕ operators_step (F.Mul a b))),
-)
+expr_layer (F.Num n) h l = subst_small (fold-roll-Expr (List ℕ) expr_numbers_step (F.Num n)) (small_leb n (sym (fold-roll-Expr Bool literals_step (F.Num n)) ∙ l), tt)
+expr_layer (F.Var i) h l = subst_small (fold-roll-Expr (List ℕ) expr_numbers_step (F.Var i)) tt
+expr_layer (F.Neg a) h l = subst_small (fold-roll-Expr (List ℕ) expr_numbers_step (F.Neg a)) (h (sym (fold-roll-Expr Bool literals_step (F.Neg a)) ∙ l))
+expr_layer (F.Add a b) h l =
+    let z : (literals_fit a && literals_fit b) ≡ true = sym (fold-roll-Expr Bool literals_step (F.Add a b)) ∙ l in
+    subst_small (fold-roll-Expr (List ℕ) expr_numbers_step (F.Add a b)) (both_small (expr_numbers a) (expr_numbers b) (h.0 (and_left _ _ z)) (h.1 (and_right _ _ z)))
+expr_layer (F.Sub a b) h l =
+    let z : (literals_fit a && literals_fit b) ≡ true = sym (fold-roll-Expr Bool literals_step (F.Sub a b)) ∙ l in
+    subst_small (fold-roll-Expr (List ℕ) expr_numbers_step (F.Sub a b)) (both_small (expr_numbers a) (expr_numbers b) (h.0 (and_left _ _ z)) (h.1 (and_right _ _ z)))
+expr_layer (F.Mul a b) h l =
+    let z : (literals_fit a && literals_fit b) ≡ true = sym (fold-roll-Expr Bool literals_step (F.Mul a b)) ∙ l in
+    subst_small (fold-roll-Expr (List ℕ) expr_numbers_step (F.Mul a b)) (both_small (expr_numbers a) (expr_numbers b) (h.0 (and_left _ _ z)) (h.1 (and_right _ _ z)))
 
 expr_of : (e : Expr) → ExprOf e
 expr_of e = Expr-induction ExprOf expr_layer e
 
 small_expr : (e : Expr) → is_limited e ≡ true → Small (expr_numbers e)
-small_expr e l = (expr_of e).0 (and_left _ _ l)
+small_expr e l = expr_of e (and_left _ _ l)
 
-few_expr : (e : Expr) → is_limited e ≡ true → expr_operators e ≤ 64
-few_expr e l = let g = (expr_of e).1 in let h = few_leb (operators e) (and_right (literals_fit e) _ l) in omega arith
+few_expr : (e : Expr) → is_limited e ≡ true → operators e ≤ 64
+few_expr e l = few_leb (operators e) (and_right (literals_fit e) _ l)
 
 -- ---- conditions
 
 abbrev CondOf : Cond → Type 0
-CondOf c = (cond_literals_fit c ≡ true → Small (cond_numbers c)) × (own_cond_operators c ≡ cond_operators c)
+CondOf c = cond_literals_fit c ≡ true → Small (cond_numbers c)
 
 cond_layer : (L : Cond-F Cond) → EachCond CondOf L → CondOf (roll-Cond L)
 unfolding roll-Cond denote.Hole.Carrier.roll
-cond_layer G.True h = (λ l. subst_small (fold-roll-Cond (List ℕ) cond_numbers_step G.True) tt, fold-roll-Cond ℕ own_cond_step G.True ∙ sym (fold-roll-Cond ℕ cond_operators_step G.True))
-cond_layer G.False h = (λ l. subst_small (fold-roll-Cond (List ℕ) cond_numbers_step G.False) tt, fold-roll-Cond ℕ own_cond_step G.False ∙ sym (fold-roll-Cond ℕ cond_operators_step G.False))
-cond_layer (G.Cmp a r b) h = (
-  λ l. let z : (literals_fit a && literals_fit b) ≡ true = sym (fold-roll-Cond Bool cond_literals_step (G.Cmp a r b)) ∙ l in
-      subst_small (fold-roll-Cond (List ℕ) cond_numbers_step (G.Cmp a r b)) (both_small (expr_numbers a) (expr_numbers b) ((expr_of a).0 (and_left _ _ z)) ((expr_of b).0 (and_right _ _ z))),
-  fold-roll-Cond ℕ own_cond_step (G.Cmp a r b) ∙ ((λ j. (expr_of a).1 j + (expr_of b).1 j) ∙ sym (fold-roll-Cond ℕ cond_operators_step (G.Cmp a r b))),
-)
-cond_layer (G.Not a) h = (
-  λ l. subst_small (fold-roll-Cond (List ℕ) cond_numbers_step (G.Not a)) (h.0 (sym (fold-roll-Cond Bool cond_literals_step (G.Not a)) ∙ l)),
-  fold-roll-Cond ℕ own_cond_step (G.Not a) ∙ (ap (λ n. 1 + n) h.1 ∙ sym (fold-roll-Cond ℕ cond_operators_step (G.Not a))),
-)
-cond_layer (G.And a b) h = (
-  λ l. let z : (cond_literals_fit a && cond_literals_fit b) ≡ true = sym (fold-roll-Cond Bool cond_literals_step (G.And a b)) ∙ l in
-      subst_small (fold-roll-Cond (List ℕ) cond_numbers_step (G.And a b)) (both_small (cond_numbers a) (cond_numbers b) (h.0.0 (and_left _ _ z)) (h.1.0 (and_right _ _ z))),
-  fold-roll-Cond ℕ own_cond_step (G.And a b) ∙ (counted (own_cond_operators a) (own_cond_operators b) (cond_operators a) (cond_operators b) h.0.1 h.1.1 ∙ sym (fold-roll-Cond ℕ cond_operators_step (G.And a b))),
-)
-cond_layer (G.Or a b) h = (
-  λ l. let z : (cond_literals_fit a && cond_literals_fit b) ≡ true = sym (fold-roll-Cond Bool cond_literals_step (G.Or a b)) ∙ l in
-      subst_small (fold-roll-Cond (List ℕ) cond_numbers_step (G.Or a b)) (both_small (cond_numbers a) (cond_numbers b) (h.0.0 (and_left _ _ z)) (h.1.0 (and_right _ _ z))),
-  fold-roll-Cond ℕ own_cond_step (G.Or a b) ∙ (counted (own_cond_operators a) (own_cond_operators b) (cond_operators a) (cond_operators b) h.0.1 h.1.1 ∙ sym (fold-roll-Cond ℕ cond_operators_step (G.Or a b))),
-)
+cond_layer G.True h l = subst_small (fold-roll-Cond (List ℕ) cond_numbers_step G.True) tt
+cond_layer G.False h l = subst_small (fold-roll-Cond (List ℕ) cond_numbers_step G.False) tt
+cond_layer (G.Cmp a r b) h l =
+    let z : (literals_fit a && literals_fit b) ≡ true = sym (fold-roll-Cond Bool cond_literals_step (G.Cmp a r b)) ∙ l in
+    subst_small (fold-roll-Cond (List ℕ) cond_numbers_step (G.Cmp a r b)) (both_small (expr_numbers a) (expr_numbers b) (expr_of a (and_left _ _ z)) (expr_of b (and_right _ _ z)))
+cond_layer (G.Not a) h l = subst_small (fold-roll-Cond (List ℕ) cond_numbers_step (G.Not a)) (h (sym (fold-roll-Cond Bool cond_literals_step (G.Not a)) ∙ l))
+cond_layer (G.And a b) h l =
+    let z : (cond_literals_fit a && cond_literals_fit b) ≡ true = sym (fold-roll-Cond Bool cond_literals_step (G.And a b)) ∙ l in
+    subst_small (fold-roll-Cond (List ℕ) cond_numbers_step (G.And a b)) (both_small (cond_numbers a) (cond_numbers b) (h.0 (and_left _ _ z)) (h.1 (and_right _ _ z)))
+cond_layer (G.Or a b) h l =
+    let z : (cond_literals_fit a && cond_literals_fit b) ≡ true = sym (fold-roll-Cond Bool cond_literals_step (G.Or a b)) ∙ l in
+    subst_small (fold-roll-Cond (List ℕ) cond_numbers_step (G.Or a b)) (both_small (cond_numbers a) (cond_numbers b) (h.0 (and_left _ _ z)) (h.1 (and_right _ _ z)))
 
 cond_of : (c : Cond) → CondOf c
 cond_of c = Cond-induction CondOf cond_layer c
 
 small_cond : (c : Cond) → cond_is_limited c ≡ true → Small (cond_numbers c)
-small_cond c l = (cond_of c).0 (and_left _ _ l)
+small_cond c l = cond_of c (and_left _ _ l)
 
-few_cond : (c : Cond) → cond_is_limited c ≡ true → own_cond_operators c ≤ 64
-few_cond c l = let g = (cond_of c).1 in let h = few_leb (cond_operators c) (and_right (cond_literals_fit c) _ l) in omega arith
+few_cond : (c : Cond) → cond_is_limited c ≡ true → cond_operators c ≤ 64
+few_cond c l = few_leb (cond_operators c) (and_right (cond_literals_fit c) _ l)
 
 -- ---- statements
 

@@ -17,7 +17,7 @@ use Rattle.dc_affine.specs.Forms.{is_below, below_step}
 use Rattle.dc_affine.specs.Table.{Fact, fact, falsity, after, crossed, relation, opposite, facts_of, facts_step}
 use Rattle.dc_affine.specs.Atoms.{cond_is_below, cond_below_step, comparison_fault, width_fault, dnf_fault}
 use Rattle.dc_affine.proofs.FormLaws.{and_both}
-use Rattle.dc_system.proofs.Operators.{expr_operators, cond_operators, cond_operators_step}
+use Rattle.dc_program.specs.Limits.{operators, cond_operators, cond_operators_step}
 use Rattle.dc_system.proofs.Lists.{each-++, each_weaker}
 use Rattle.dc_system.proofs.Wider.{cond_below_wider, comparison_wider}
 use Rattle.dc_system.proofs.Levels.{IsLevel, cases_level}
@@ -90,16 +90,16 @@ Short k f = length f ≤ 2 * (k + 1)
 short_weaker : (i k : ℕ) (fs : Facts) → i ≤ k → AllByRecursion (Short i) fs → AllByRecursion (Short k) fs
 short_weaker i k fs h = each_weaker (Short i) (Short k) (λ f g. omega arith) fs
 
-short-after : (i k : ℕ) (f : List Fact) (gs : Facts) → Short i f → AllByRecursion (Short k) gs → AllByRecursion (Short (1 + (i + k))) (after f gs)
+short-after : (i k : ℕ) (f : List Fact) (gs : Facts) → Short i f → AllByRecursion (Short k) gs → AllByRecursion (Short (i + (1 + k))) (after f gs)
 short-after i k f [] h g = tt
 short-after i k f (x ∷ gs) h g = ((let a = length-append f x in let b = g.0 in omega arith), short-after i k f gs h g.1)
 
-short-crossed : (i k : ℕ) (fs gs : Facts) → AllByRecursion (Short i) fs → AllByRecursion (Short k) gs → AllByRecursion (Short (1 + (i + k))) (crossed fs gs)
+short-crossed : (i k : ℕ) (fs gs : Facts) → AllByRecursion (Short i) fs → AllByRecursion (Short k) gs → AllByRecursion (Short (i + (1 + k))) (crossed fs gs)
 short-crossed i k [] gs h g = tt
-short-crossed i k (f ∷ fs) gs h g = each-++ (Short (1 + (i + k))) (after f gs) (crossed fs gs) (short-after i k f gs h.0 g) (short-crossed i k fs gs h.1 g)
+short-crossed i k (f ∷ fs) gs h g = each-++ (Short (i + (1 + k))) (after f gs) (crossed fs gs) (short-after i k f gs h.0 g) (short-crossed i k fs gs h.1 g)
 
-short-++ : (i k : ℕ) (fs gs : Facts) → AllByRecursion (Short i) fs → AllByRecursion (Short k) gs → AllByRecursion (Short (1 + (i + k))) (fs ++ gs)
-short-++ i k fs gs h g = each-++ (Short (1 + (i + k))) fs gs (short_weaker i (1 + (i + k)) fs (omega arith) h) (short_weaker k (1 + (i + k)) gs (omega arith) g)
+short-++ : (i k : ℕ) (fs gs : Facts) → AllByRecursion (Short i) fs → AllByRecursion (Short k) gs → AllByRecursion (Short (i + (1 + k))) (fs ++ gs)
+short-++ i k fs gs h g = each-++ (Short (i + (1 + k))) fs gs (short_weaker i (i + (1 + k)) fs (omega arith) h) (short_weaker k (i + (1 + k)) gs (omega arith) g)
 
 short-relation : (k : ℕ) (a : Expr) (r : Rel) (b : Expr) → AllByRecursion (Short k) (relation a r b)
 short-relation k a Le b = (omega arith, tt)
@@ -116,7 +116,7 @@ short_layer : (L : Cond-F Cond) → EachCond BothShort L
     → AllByRecursion (Short (cond_operators_step (map-Cond Cond ℕ cond_operators L))) (facts_step (map-Cond Cond _ facts_of L) false) × AllByRecursion (Short (cond_operators_step (map-Cond Cond ℕ cond_operators L))) (facts_step (map-Cond Cond _ facts_of L) true)
 short_layer G.True h = ((omega arith, tt), (omega arith, tt))
 short_layer G.False h = ((omega arith, tt), (omega arith, tt))
-short_layer (G.Cmp x r y) h = (short-relation (expr_operators x + expr_operators y) x r y, short-relation (expr_operators x + expr_operators y) x (opposite r) y)
+short_layer (G.Cmp x r y) h = (short-relation (operators x + operators y) x r y, short-relation (operators x + operators y) x (opposite r) y)
 short_layer (G.Not c) h = (short_weaker (cond_operators c) (1 + cond_operators c) (facts_of c true) (omega arith) h.1, short_weaker (cond_operators c) (1 + cond_operators c) (facts_of c false) (omega arith) h.0)
 short_layer (G.And c d) h = (short-crossed (cond_operators c) (cond_operators d) (facts_of c false) (facts_of d false) h.0.0 h.1.0, short-++ (cond_operators c) (cond_operators d) (facts_of c true) (facts_of d true) h.0.1 h.1.1)
 short_layer (G.Or c d) h = (short-++ (cond_operators c) (cond_operators d) (facts_of c false) (facts_of d false) h.0.0 h.1.0, short-crossed (cond_operators c) (cond_operators d) (facts_of c true) (facts_of d true) h.0.1 h.1.1)

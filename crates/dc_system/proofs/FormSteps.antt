@@ -12,10 +12,10 @@ use Rattle.dc_poly.specs.NormalForm.{most}
 use Rattle.dc_system.specs.Shapes.{IsForm}
 use Rattle.dc_system.specs.Composed.{forms_at, form_fits, forms_fit}
 use Rattle.dc_system.specs.Small.{AreValues}
-use Rattle.dc_system.proofs.Weights.{light_form}
+use Rattle.dc_poly.proofs.FewTerms.{normal_light}
 
 pub form_light : (m : ℕ) (p : Polynomial) → IsForm m p → weight p.terms ≤ 78 * most
-form_light m p h = light_form p.places p.terms h.kind.few h.kind.in_order h.kind.padded h.narrow
+form_light m p h = normal_light p.places p.terms h.kind.few h.kind.in_order h.kind.padded h.narrow
 
 have_places : (m : ℕ) (vs : List Polynomial) → AllByRecursion (IsForm m) vs → HavePlaces m vs
 have_places m [] h = tt

@@ -17,7 +17,8 @@ use Rattle.dc_graph.specs.Labels.{Label, Arrow, arrow, branch, idle, tests}
 use Rattle.dc_graph.specs.Pieces.{Piece, sizes, first, placed, layer, piece, pieces, piece_in, exit_of, arrows_of}
 use Rattle.dc_graph.proofs.Lists.{among-++, among-one}
 use Rattle.dc_system.specs.Literals.{joined}
-use Rattle.dc_system.proofs.Operators.{cond_operators, stmt_operators_step, stmt_operators, operators_of}
+use Rattle.dc_program.specs.Limits.{cond_operators}
+use Rattle.dc_system.proofs.Operators.{stmt_operators_step, stmt_operators, operators_of}
 use Rattle.dc_system.proofs.Lists.{each_left, each_right}
 use Rattle.dc_system.proofs.Passes.{Parts, parts, each_all, none_parts}
 use Rattle.dc_system.proofs.Points.{IsCase, LabelPasses}

@@ -1,12 +1,12 @@
 //! The system of a procedure.
-ghost use Rattle.std.specs.Prelude.{◌≡◌, ◌⊎◌, ◌↔◌, ◌-◌, IfOk, IfErr, Some, None, length, ℤ};
+ghost use Rattle.std.specs.Prelude.{◌≡◌, ◌⊎◌, ◌↔◌, IfOk, IfErr, Some, None, length, ℤ};
 ghost use Rattle.dc_syntax.specs.Value.{State};
 ghost use Rattle.dc_syntax.specs.Run.{Run};
 ghost use Rattle.dc_system.specs.declared.edges.SystemFault.TheVariants.{NoMemory};
 ghost use Rattle.dc_program.specs.Programs.{IsProgram};
 ghost use Rattle.dc_system.specs.Systems.{size_fault, system_of};
 ghost use Rattle.dc_system.specs.Shapes.{IsWellFormed};
-ghost use Rattle.dc_system.specs.Paths.{Path};
+ghost use Rattle.dc_system.specs.Laws.{Through};
 
 use crate::count::count_all;
 use crate::edges::{System, SystemFault};
@@ -70,7 +70,7 @@ pub fn build(alloc: Global, p: &Proc) -> Result<System, SystemFault>
     ensures within { IfOk result (λ s. size_fault p.now ≡ None) }
     ensures fault { IfErr result (λ f. (f ≡ NoMemory) ⊎ (size_fault p.now ≡ Some f)) }
     ensures well_formed { IfOk result (λ s. IsWellFormed s) }
-    ensures paths { IfOk result (λ s. (x : State) (c : ℤ) (t : State) → length x ≡ s.vars → Path s.edges 0 x c (s.locs - 1) t ↔ Run p.now.body x c t) }
+    ensures paths { IfOk result (λ s. (x : State) (c : ℤ) (t : State) → length x ≡ s.vars → Through s x c t ↔ Run p.now.body x c t) }
 {
     let system = made(alloc, p)?;
     Ok(system)
