@@ -3,8 +3,7 @@ use dc_cli::top;
 use dc_host::{MemSink, MemStore};
 use std::alloc::{AllocError, Global};
 
-const USAGE: &str =
-    "usage: diffcost analyse NEW OLD\n";
+const USAGE: &str = "usage: diffcost analyse NEW OLD\n";
 
 fn words_of(alloc: Global, line: &str) -> Result<Vec<String>, AllocError> {
     let mut words = Vec::new(alloc);
