@@ -1,5 +1,5 @@
 //! A condition as conjunctions of atoms.
-ghost use Rattle.std.specs.Prelude.{ℕ, ◌≡◌, ◌≤◌, ◌+◌, ◌*◌, ◌++◌, List, [], ◌∷◌, IfOk, IfErr, OnOk, None, true, length, min, if◌then◌else◌};
+ghost use Rattle.std.specs.Prelude.{ℕ, ◌≡◌, ◌≤◌, ◌+◌, ◌*◌, ◌++◌, List, [], ◌∷◌, IfOk, IfErr, OnOk, Some, None, true, length, min, if◌then◌else◌};
 ghost use Rattle.std.specs.Option.{option_or};
 ghost use Rattle.dc_poly.specs.Terms.{IsPolynomial, degree_of, polynomial};
 ghost use Rattle.dc_syntax.specs.declared.tree.Expr.{Expr as ExprTree};
@@ -7,7 +7,7 @@ ghost use Rattle.dc_poly.specs.NormalForm.{coefs_fit};
 ghost use Rattle.dc_affine.specs.Forms.{IsCause, is_below};
 ghost use Rattle.dc_affine.specs.Table.{after, crossed, facts_of, falsity, relation};
 ghost use Rattle.dc_affine.specs.Table.{opposite as opposite_of};
-ghost use Rattle.dc_affine.specs.Atoms.{AllCases, IsFullAtom, atom_of, cases_of, comparison_fault, cond_is_below, conjunctions_of, dnf_fault, gap_of, sides_fault};
+ghost use Rattle.dc_affine.specs.Atoms.{AllCases, IsFullAtom, atom_of, cases_of, comparison_fault, cond_is_below, conjunctions_of, dnf_fault, gap_fault, gap_of, sides_fault, width_fault};
 ghost use Rattle.dc_affine.specs.Gaps.{combined};
 
 use crate::atom::{Atom, at_least, comparison, single};
@@ -17,6 +17,21 @@ use dc_syntax::{Cond, Expr, Rel};
 use std::alloc::{AllocError, Global};
 
 const WIDEST: usize = 64;
+
+// Judges the difference of the sides of a comparison.
+fn judge_gap(gap: &Poly) -> Result<(), FormFault>
+    ensures passes { IfOk result (λ u. gap_fault gap.now.terms ≡ None) }
+    ensures fault { IfErr result (λ f. gap_fault gap.now.terms ≡ Some f) }
+    ensures fits { IfOk result (λ u. coefs_fit gap.now.terms ≡ true) }
+{
+    if gap.degree() > 1 {
+        return Err(FormFault::NotAffine);
+    }
+    if !in_range(gap) {
+        return Err(FormFault::CoefficientRange);
+    }
+    Ok(())
+}
 
 // The left side of a comparison less its right side.
 fn gap(alloc: Global, a: &Expr, b: &Expr, places: usize) -> Result<Poly, FormFault>
@@ -32,12 +47,7 @@ fn gap(alloc: Global, a: &Expr, b: &Expr, places: usize) -> Result<Poly, FormFau
     let left = normal(alloc, a, places)?;
     let right = normal(alloc, b, places)?;
     let gap = difference(alloc, &left, &right)?;
-    if gap.degree() > 1 {
-        return Err(FormFault::NotAffine);
-    }
-    if !in_range(&gap) {
-        return Err(FormFault::CoefficientRange);
-    }
+    judge_gap(&gap)?;
     Ok(gap)
 }
 
@@ -264,6 +274,18 @@ fn conjunctions(
     }
 }
 
+// Judges the number of conjunctions.
+#[tactic(auto, using(crate::proofs::Widths::widest))]
+fn judge_width(c: &Cond, negated: bool) -> Result<(), FormFault>
+    ensures passes { IfOk result (λ u. width_fault c.now negated ≡ None) }
+    ensures fault { IfErr result (λ f. width_fault c.now negated ≡ Some f) }
+{
+    if width(c, negated) > WIDEST {
+        return Err(FormFault::ConditionTooWide);
+    }
+    Ok(())
+}
+
 /// The conjunctions of a condition, or of its negation, as atoms with one coefficient per place.
 ///
 /// Negation is pushed inward: `a < b` is the one atom `b - a - 1`, `a != b` the two cases `b - a - 1` and
@@ -289,9 +311,7 @@ pub fn dnf(
     ensures atoms { IfOk result (λ v. AllCases (IsFullAtom places) (cases_of v.items)) }
 {
     judge(alloc, c, places)?;
-    if width(c, negated) > WIDEST {
-        return Err(FormFault::ConditionTooWide);
-    }
+    judge_width(c, negated)?;
     let cases = conjunctions(alloc, c, negated, places)?;
     Ok(cases)
 }

@@ -4,7 +4,7 @@ ghost use Rattle.std.specs.Option.{option_or};
 ghost use Rattle.dc_poly.specs.Terms.{IsPolynomial, degree_of};
 ghost use Rattle.dc_poly.specs.Sums.{sum_of, negation_of, product_of};
 ghost use Rattle.dc_poly.specs.NormalForm.{IsNormalForm, coefs_fit};
-ghost use Rattle.dc_affine.specs.Forms.{IsCause, affine_fault, fault_of, form_of, is_below, own_fault};
+ghost use Rattle.dc_affine.specs.Forms.{IsCause, affine_fault, bend, fault_of, form_of, is_below, own_fault};
 
 use dc_poly::Poly;
 use dc_syntax::Expr;
@@ -72,6 +72,18 @@ fn judge(form: Poly) -> Result<Poly, FormFault>
         return Err(FormFault::CoefficientRange);
     }
     Ok(form)
+}
+
+// Judges the degree of a form that should be affine.
+fn judge_degree(form: &Poly) -> Result<(), FormFault>
+    ensures passes { IfOk result (λ u. bend form.now.terms ≡ None) }
+    ensures fault { IfErr result (λ f. bend form.now.terms ≡ Some f) }
+    ensures low { IfOk result (λ u. degree_of form.now.terms ≤ 1) }
+{
+    if form.degree() > 1 {
+        return Err(FormFault::NotAffine);
+    }
+    Ok(())
 }
 
 // The normal form of a sum.
@@ -165,8 +177,6 @@ pub fn affine(alloc: Global, e: &Expr, places: usize) -> Result<Poly, FormFault>
     ensures low { IfOk result (λ p. degree_of p.terms ≤ 1) }
 {
     let form = normal(alloc, e, places)?;
-    if form.degree() > 1 {
-        return Err(FormFault::NotAffine);
-    }
+    judge_degree(&form)?;
     Ok(form)
 }

@@ -14,4 +14,4 @@ change-requires-clause-place g c =
 pub loop-ending-preserved : goal.loop-ending-preserved
 loop-ending-preserved g c =
     here-more (linear_of c.args.p.now) c.args.budget c.args.p.now.rows c.len-n.result c.loop-ending.pivots c.loop-ending.phase (g.T.Tableau.meaning c.loop-ending.tableau) c.loop-ending.invariant
-    c.in-Ok-Pivot.next (g.T.Tableau.meaning c.change.new.tableau) c.in-Ok-Pivot.row c.in-Ok-Pivot.col (rw c.in-Ok-Pivot.field-0-is at c.in-Ok-Pivot.ensures) c.in_ok-change-in-Ok-Pivot.ensures.fits c.in_ok-change-in-Ok-Pivot.ensures.ok c.if-pivots-budget-2.false
+    c.in-Ok-Pivot.next (g.T.Tableau.meaning c.change.new.tableau) c.in-Ok-Pivot.row c.in-Ok-Pivot.col (rw c.in-Ok-Pivot.field-0-is at c.in-Ok-Pivot.ensures) c.in_ok-change-in-Ok-Pivot.ensures.fits c.in_ok-change-in-Ok-Pivot.ensures.ok c.in_ok-judge_budget-in-Ok-Pivot.ensures.left
