@@ -1,6 +1,11 @@
 //! Texts of certificates: what is read from them, and what is written again.
-use dc_certtext::{ReadFault, read_cert, read_items, write_cert, write_items};
+use dc_cert::{Body, Claim, sparse_of};
+use dc_certtext::{
+    ReadFault, read_cert, read_items, write_cert, write_claim, write_fraction, write_items,
+};
+use dc_frac::Frac;
 use std::alloc::{AllocError, Global};
+use std::process::Abort;
 use std::test::Fail;
 
 // Two empty programs in one parameter, without a condition.
@@ -49,78 +54,81 @@ const NUMBERED: [&str; 19] = [
 ];
 
 // The floor of -1/2 is -1.
-const NEGATIVE: &str = "threshold -1/2
-whole -1
-diffcost 1
-degree 3 products 3
-when live
-side new
-location 0
-atom 2147483648
-entry
-keep 0:170141183460469231731687303715884105727
-exit live
-side old
-location 0
-entry
-exit live
-main
-unknown 0:-1/170141183460469231731687303715884105727
-lambda
-dual 8191:1
-end
-";
+const NEGATIVE: [&str; 20] = [
+    "threshold -1/2",
+    "whole -1",
+    "diffcost 1",
+    "degree 3 products 3",
+    "when live",
+    "side new",
+    "location 0",
+    "atom 2147483648",
+    "entry",
+    "keep 0:170141183460469231731687303715884105727",
+    "exit live",
+    "side old",
+    "location 0",
+    "entry",
+    "exit live",
+    "main",
+    "unknown 0:-1/170141183460469231731687303715884105727",
+    "lambda",
+    "dual 8191:1",
+    "end",
+];
 
-const NOTHING: &str = "none
-diffcost 1
-degree 1 products 1
-when dead 0:1
-side new
-location 0
-entry
-exit live
-side old
-location 0
-entry
-exit dead
-main
-dual 0:1 7:-2/3
-end
-";
+const NOTHING: [&str; 15] = [
+    "none",
+    "diffcost 1",
+    "degree 1 products 1",
+    "when dead 0:1",
+    "side new",
+    "location 0",
+    "entry",
+    "exit live",
+    "side old",
+    "location 0",
+    "entry",
+    "exit dead",
+    "main",
+    "dual 0:1 7:-2/3",
+    "end",
+];
 
-const TWO_CASES: &str = "vacuous
-diffcost 2
-degree 1 products 2
-cases 2
-when live 0:1 1:-1/2
-when dead 8191:-7
-side new
-location 0
-atom -2147483648
-atom 5 -1 0 2147483647
-location 1
-atom 0 0 0 0 0 0 0 0 0 0 0
-entry 0
-keep 0:1
-keep
-entry 1
-edge 0 live 3:1
-keep 1:2 2:-3/4
-edge 1 dead
-exit dead 0:1
-side old
-location 0
-entry 0
-entry 1
-keep
-exit live
-main
-unknown 0:1
-lambda
-ray unknown 1:-1
-ray lambda 2:5
-end
-";
+const TWO_CASES: [&str; 32] = [
+    "vacuous",
+    "diffcost 2",
+    "degree 1 products 2",
+    "cases 2",
+    "when live 0:1 1:-1/2",
+    "when dead 8191:-7",
+    "side new",
+    "location 0",
+    "atom -2147483648",
+    "atom 5 -1 0 2147483647",
+    "location 1",
+    "atom 0 0 0 0 0 0 0 0 0 0 0",
+    "entry 0",
+    "keep 0:1",
+    "keep",
+    "entry 1",
+    "edge 0 live 3:1",
+    "keep 1:2 2:-3/4",
+    "edge 1 dead",
+    "exit dead 0:1",
+    "side old",
+    "location 0",
+    "entry 0",
+    "entry 1",
+    "keep",
+    "exit live",
+    "main",
+    "unknown 0:1",
+    "lambda",
+    "ray unknown 1:-1",
+    "ray lambda 2:5",
+    "end",
+];
 
 fn put_lines(out: &mut String, lines: &[&str]) -> Result<(), AllocError> {
     for line in lines {
@@ -163,15 +171,14 @@ fn refused_at(alloc: Global, text: &str) -> Result<u64, Fail> {
 #[test]
 fn texts_both_ways(rt: HostRuntime) -> Result<(), Fail> {
     let alloc = rt.alloc();
-    let small = text_of(alloc, &SMALL)?;
-    let numbered = text_of(alloc, &NUMBERED)?;
-    for text in [
-        small.as_str(),
-        numbered.as_str(),
-        NEGATIVE,
-        NOTHING,
-        TWO_CASES,
+    for lines in [
+        SMALL.as_slice(),
+        NUMBERED.as_slice(),
+        NEGATIVE.as_slice(),
+        NOTHING.as_slice(),
+        TWO_CASES.as_slice(),
     ] {
+        let text = text_of(alloc, lines)?;
         let c = read_cert(alloc, text.as_bytes())?;
         let written = write_cert(alloc, &c)?;
         assert!(rt; written.as_slice() == text.as_bytes(), "{text}");
@@ -179,34 +186,188 @@ fn texts_both_ways(rt: HostRuntime) -> Result<(), Fail> {
     Ok(())
 }
 
-// Each line left out, put twice, and put behind the next one.
-#[test]
-fn each_line_has_its_place(rt: HostRuntime) -> Result<(), Fail> {
-    let alloc = rt.alloc();
-    for lines in [SMALL.as_slice(), NUMBERED.as_slice()] {
-        for k in 0..lines.len() {
-            let place = k as u64 + 1;
-            let line = lines[k];
-            let dropped = changed(alloc, lines, k, k + 1, &[])?;
-            assert!(rt;
-                refused_at(alloc, dropped.as_str())? == place,
-                "without {line}"
-            );
-            let doubled = changed(alloc, lines, k, k + 1, &[line, line])?;
-            assert!(rt;
-                refused_at(alloc, doubled.as_str())? == place + 1,
-                "twice {line}"
-            );
-            if k + 1 < lines.len() {
-                let next = lines[k + 1];
-                let swapped = changed(alloc, lines, k, k + 2, &[next, line])?;
-                assert!(rt;
-                    refused_at(alloc, swapped.as_str())? == place,
-                    "{next} before {line}"
-                );
-            }
+// What a table says of a line, and where it says nothing the other line.
+fn told(table: &[(usize, u64)], line: usize, other: u64) -> u64 {
+    for row in table {
+        if row.0 == line {
+            return row.1;
         }
     }
+    other
+}
+
+// Each line, by its place from 0 on, left out: the text is refused at the line behind it, unless the table says otherwise.
+fn left_out(
+    alloc: Global,
+    rt: &impl Abort,
+    lines: &[&str],
+    table: &[(usize, u64)],
+) -> Result<(), Fail> {
+    for k in 0..lines.len() {
+        let text = changed(alloc, lines, k, k + 1, &[])?;
+        let line = lines[k];
+        assert!(rt;
+            refused_at(alloc, text.as_str())? == told(table, k, k as u64 + 1),
+            "without {line}"
+        );
+    }
+    Ok(())
+}
+
+// Each line put twice: the second one is refused, unless the table says otherwise.
+fn doubled(
+    alloc: Global,
+    rt: &impl Abort,
+    lines: &[&str],
+    table: &[(usize, u64)],
+) -> Result<(), Fail> {
+    for k in 0..lines.len() {
+        let line = lines[k];
+        let text = changed(alloc, lines, k, k + 1, &[line, line])?;
+        assert!(rt;
+            refused_at(alloc, text.as_str())? == told(table, k, k as u64 + 2),
+            "twice {line}"
+        );
+    }
+    Ok(())
+}
+
+// Each line put behind the next one, which is refused, unless the table says otherwise.
+fn moved(
+    alloc: Global,
+    rt: &impl Abort,
+    lines: &[&str],
+    table: &[(usize, u64)],
+) -> Result<(), Fail> {
+    for k in 1..lines.len() {
+        let line = lines[k];
+        let text = changed(alloc, lines, k - 1, k + 1, &[line, lines[k - 1]])?;
+        assert!(rt;
+            refused_at(alloc, text.as_str())? == told(table, k - 1, k as u64),
+            "{line} moved up"
+        );
+    }
+    Ok(())
+}
+
+// Lines that may be missing or stand twice are those of atoms, keeps and edges; where the count is wrong, a later line tells.
+#[test]
+fn lines_left_out(rt: HostRuntime) -> Result<(), Fail> {
+    left_out(rt.alloc(), &rt, &SMALL, &[])?;
+    left_out(rt.alloc(), &rt, &NUMBERED, &[])?;
+    left_out(rt.alloc(), &rt, &NEGATIVE, &[(7, 0), (9, 0)])?;
+    left_out(rt.alloc(), &rt, &NOTHING, &[])?;
+    let table = [
+        (4, 6),
+        (8, 0),
+        (9, 0),
+        (10, 0),
+        (11, 0),
+        (13, 0),
+        (14, 0),
+        (16, 18),
+        (17, 0),
+        (18, 0),
+        (23, 25),
+        (24, 0),
+    ];
+    left_out(rt.alloc(), &rt, &TWO_CASES, &table)?;
+    Ok(())
+}
+
+#[test]
+fn lines_put_twice(rt: HostRuntime) -> Result<(), Fail> {
+    doubled(rt.alloc(), &rt, &SMALL, &[])?;
+    doubled(rt.alloc(), &rt, &NUMBERED, &[])?;
+    doubled(rt.alloc(), &rt, &NEGATIVE, &[(7, 0), (9, 0)])?;
+    doubled(rt.alloc(), &rt, &NOTHING, &[])?;
+    let table = [
+        (4, 7),
+        (8, 0),
+        (9, 0),
+        (11, 0),
+        (13, 0),
+        (14, 0),
+        (17, 0),
+        (24, 0),
+    ];
+    doubled(rt.alloc(), &rt, &TWO_CASES, &table)?;
+    Ok(())
+}
+
+#[test]
+fn lines_moved_behind_the_next(rt: HostRuntime) -> Result<(), Fail> {
+    moved(rt.alloc(), &rt, &SMALL, &[])?;
+    moved(rt.alloc(), &rt, &NUMBERED, &[])?;
+    moved(rt.alloc(), &rt, &NEGATIVE, &[(7, 9), (9, 11)])?;
+    moved(rt.alloc(), &rt, &NOTHING, &[])?;
+    let table = [
+        (4, 0),
+        (8, 0),
+        (9, 0),
+        (10, 0),
+        (11, 13),
+        (13, 0),
+        (14, 0),
+        (16, 0),
+        (17, 0),
+        (18, 20),
+        (23, 0),
+        (24, 26),
+    ];
+    moved(rt.alloc(), &rt, &TWO_CASES, &table)?;
+    Ok(())
+}
+
+// The kinds of the cases, the atoms, and which ray is which.
+#[test]
+fn parts_of_a_certificate(rt: HostRuntime) -> Result<(), Fail> {
+    let alloc = rt.alloc();
+    let text = text_of(alloc, &TWO_CASES)?;
+    let c = read_cert(alloc, text.as_bytes())?;
+    let when = c.when.as_slice();
+    assert!(rt; when.len() == 2);
+    assert!(rt; when[0].is_live() && !when[1].is_live());
+    let families = c.new_side.families.as_slice();
+    assert!(rt; families.len() == 2);
+    let atoms = families[0].as_slice();
+    assert!(rt; atoms.len() == 2);
+    assert!(rt; atoms[0].c0 == -2147483648 && atoms[0].coefs.len() == 0);
+    assert!(rt; atoms[1].c0 == 5);
+    assert!(rt; atoms[1].coefs.as_slice() == [-1, 0, 2147483647].as_slice());
+    let Body::Vacuous {
+        ray_unknown,
+        ray_lambda,
+        ..
+    } = &c.body
+    else {
+        return Err(Fail::from("not vacuous"));
+    };
+    let unknown = write_items(alloc, ray_unknown)?;
+    assert!(rt; unknown.as_slice() == b" 1:-1".as_slice());
+    let lambda = write_items(alloc, ray_lambda)?;
+    assert!(rt; lambda.as_slice() == b" 2:5".as_slice());
+    Ok(())
+}
+
+// The lines that a claim begins its certificate with.
+#[test]
+fn lines_of_claims(rt: HostRuntime) -> Result<(), Fail> {
+    let alloc = rt.alloc();
+    for (claim, text) in [
+        (
+            Claim::Threshold(Frac::new(-1, 2)),
+            "threshold -1/2\nwhole -1\n",
+        ),
+        (Claim::Threshold(Frac::whole(7)), "threshold 7\nwhole 7\n"),
+        (Claim::Nothing, "none\n"),
+        (Claim::Vacuous, "vacuous\n"),
+    ] {
+        let lines = write_claim(alloc, &claim)?;
+        assert!(rt; lines.as_slice() == text.as_bytes(), "{text}");
+    }
+    let half = write_fraction(alloc, &Frac::new(-1, 2))?;
+    assert!(rt; half.as_slice() == b"-1/2".as_slice());
     Ok(())
 }
 
@@ -361,6 +522,10 @@ fn items_both_ways(rt: HostRuntime) -> Result<(), Fail> {
     );
     let text = write_items(alloc, &s)?;
     assert!(rt; text.as_slice() == b" 0:1 2:-1/2".as_slice());
+    let zero = Frac::whole(0);
+    let whole = sparse_of(alloc, &[zero, Frac::new(1, 3), zero, Frac::whole(-2)])?;
+    let written = write_items(alloc, &whole)?;
+    assert!(rt; written.as_slice() == b" 1:1/3 3:-2".as_slice());
     Ok(())
 }
 
