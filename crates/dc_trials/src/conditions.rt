@@ -3,6 +3,7 @@ ghost use Rattle.std.specs.Prelude.{◌≡◌};
 ghost use Rattle.dc_affine.specs.Forms.{is_below};
 ghost use Rattle.dc_affine.specs.Atoms.{cond_is_below};
 
+use crate::text::form_text;
 use dc_affine::{Atom, FormFault, affine, dnf, normal};
 use dc_syntax::{Cond, Expr, Rel};
 use sqlite_items::Boxed;
@@ -258,6 +259,34 @@ fn the_number_of_conjunctions(rt: HostRuntime) -> Result<(), Fail> {
                 assert_eq!(rt; name(&fault), "wide", "{text} {negated}");
                 assert!(rt; expected.is_none(), "{text} {negated}");
             }
+        }
+    }
+    Ok(())
+}
+
+#[test]
+fn the_normal_form_by_example(rt: HostRuntime) -> Result<(), Fail> {
+    let alloc = rt.alloc();
+    let names = vec![in alloc;
+        String::from_str(alloc, "x")?,
+        String::from_str(alloc, "y")?,
+    ]?;
+    for (text, terms, is_affine) in [
+        ("mx*y-", " 2147483647x -1y", true),
+        ("xx*xx*-", "", true),
+        ("3x2*-~", " -3 2x", true),
+        ("x1+x1-*", " -1 1xx", false),
+        ("xy+xy+*", " 1xx 2xy 1yy", false),
+    ] {
+        let e = expression(alloc, text)?;
+        assert!(rt; below(&e, 2));
+        let form = normal(alloc, &e, 2)?;
+        let written = form_text(alloc, names.as_slice(), &form)?;
+        assert_eq!(rt; written.as_str(), terms, "{text}");
+        if is_affine {
+            let form = affine(alloc, &e, 2)?;
+            let written = form_text(alloc, names.as_slice(), &form)?;
+            assert_eq!(rt; written.as_str(), terms, "{text}");
         }
     }
     Ok(())

@@ -136,11 +136,39 @@ const SQUARES: Row = Row {
 ",
 };
 
+// What each location would be folded into has a coefficient past its range.
+const WIDE_FORMS: Row = Row {
+    source: "proc f(n) { var x, y; x = 2147483647*n; y = 2147483647*x; tick 2147483647*y*y; }",
+    built: "3 variables, 1 parameters, 4 locations, literals 2147483647
+0 to 1, n = 1n, x = 2147483647n, y = 1y, cost
+1 to 2, n = 1n, x = 1x, y = 2147483647x, cost
+2 to 3, n = 1n, x = 1x, y = 1y, cost 2147483647yy
+",
+    folded: "3 variables, 1 parameters, 4 locations, literals 2147483647
+0 to 1, n = 1n, x = 2147483647n, y = 1y, cost
+1 to 2, n = 1n, x = 1x, y = 2147483647x, cost
+2 to 3, n = 1n, x = 1x, y = 1y, cost 2147483647yy
+",
+};
+
+// The atom after the update would have a coefficient past its size.
+const WIDE_ATOM: Row = Row {
+    source: "proc f(n) { var x; x = 2147483647*n; assume (2*x <= 0); }",
+    built: "2 variables, 1 parameters, 3 locations, literals 0 2 2147483647
+0 to 1, n = 1n, x = 2147483647n, cost
+1 to 2, where 0 -2x, n = 1n, x = 1x, cost
+",
+    folded: "2 variables, 1 parameters, 3 locations, literals 0 2 2147483647
+0 to 1, n = 1n, x = 2147483647n, cost
+1 to 2, where 0 -2x, n = 1n, x = 1x, cost
+",
+};
+
 #[test]
 fn builds_and_folds(rt: HostRuntime) -> Result<(), Fail> {
     let alloc = rt.alloc();
     for row in [
-        LOOP, EMPTY, NESTED, NO_ELSE, FREE_LOOPS, CHOSEN, CHAIN, SQUARES,
+        LOOP, EMPTY, NESTED, NO_ELSE, FREE_LOOPS, CHOSEN, CHAIN, SQUARES, WIDE_FORMS, WIDE_ATOM,
     ] {
         let p = parse_proc(alloc, row.source.as_bytes())?;
         let names = p.names.as_slice();
@@ -200,6 +228,29 @@ fn keeps_the_limits(rt: HostRuntime) -> Result<(), Fail> {
             size(alloc, source.as_str())? == expected,
             "{times} times {part}{end}"
         );
+    }
+    Ok(())
+}
+
+// An assumption of so many equations, joined by `&&`: two atoms each.
+fn narrow(alloc: Global, equations: usize) -> Result<String, AllocError> {
+    let mut text = String::from_str(alloc, "assume (n == 0")?;
+    for _turn in 1..equations {
+        text.push_str(" && n == 0")?;
+    }
+    text.push_str("); ")?;
+    Ok(text)
+}
+
+#[test]
+fn folds_guards_of_at_most_256_atoms(rt: HostRuntime) -> Result<(), Fail> {
+    let alloc = rt.alloc();
+    for (equations, locations) in [(64, 2), (65, 3)] {
+        let part = narrow(alloc, equations)?;
+        let source = repeated(alloc, part.as_str(), 2, "")?;
+        let p = parse_proc(alloc, source.as_bytes())?;
+        let folded = fold(alloc, &build(alloc, &p)?)?;
+        assert_eq!(rt; folded.locs, locations);
     }
     Ok(())
 }

@@ -44,6 +44,17 @@ fn put_poly(out: &mut String, names: &[String], poly: &Poly) -> Result<(), Alloc
     Ok(())
 }
 
+/// A polynomial as a text.
+pub(crate) fn form_text(
+    alloc: Global,
+    names: &[String],
+    form: &Poly,
+) -> Result<String, AllocError> {
+    let mut out = String::new(alloc);
+    put_poly(&mut out, names, form)?;
+    Ok(out)
+}
+
 // An edge as a line: from and to, the atoms of the guard, what each variable becomes, the cost, and whether there is a chosen value.
 fn put_edge(out: &mut String, names: &[String], edge: &Edge) -> Result<(), AllocError> {
     write!(out, "{} to {}", edge.from, edge.to)?;
