@@ -6,3 +6,4 @@ pub mod Steps
 pub mod Readings
 pub mod Shown
 pub mod Solved
+pub mod Ends

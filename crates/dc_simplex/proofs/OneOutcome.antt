@@ -45,7 +45,7 @@ same_list [] (y ∷ ys) l e = absurd (omega (arith, l))
 same_list (x ∷ xs) [] l e = absurd (omega (arith, l))
 same_list (x ∷ xs) (y ∷ ys) l e = ap₂ ◌∷◌ (same_frac x y (e 0 (omega arith))) (same_list xs ys (omega (arith, l)) (λ k m. e (suc k) (omega arith)))
 
-same_vector : (n : ℕ) (f : ℕ → ℚ) (xs ys : List Frac) → IsVector n f xs → IsVector n f ys → xs ≡ ys
+pub same_vector : (n : ℕ) (f : ℕ → ℚ) (xs ys : List Frac) → IsVector n f xs → IsVector n f ys → xs ≡ ys
 same_vector n f xs ys h k =
     let lx : length xs ≡ n = h.long in
     let ly : length ys ≡ n = k.long in

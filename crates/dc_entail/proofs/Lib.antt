@@ -1,0 +1,5 @@
+pub mod Refusals
+pub mod Equal
+pub mod Build
+pub mod Problems
+pub mod Telling

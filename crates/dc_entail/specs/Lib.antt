@@ -1,0 +1,5 @@
+pub mod Answers
+pub mod Asked
+pub mod Columns
+pub mod Equal
+pub mod Places
