@@ -1,0 +1,23 @@
+use Rattle.std.proofs.Common.{◌≡◌, ◌<◌, set, length, arith, None, refl}
+use Rattle.dc_sparse.specs.declared.web.Node.{Node}
+use Rattle.dc_sparse.proofs.Cells.{written}
+use Rattle.dc_sparse.proofs.Blank.{freed_start, freed_more}
+use Rattle.dc_sparse.proofs.memory.free_all.Goals as goal
+
+pub loop-node-init : goal.loop-node-init
+loop-node-init c = freed_start c.args.nodes.now.items
+
+pub loop-node-preserved : goal.loop-node-preserved
+loop-node-preserved c =
+    let xs = c.loop-node.nodes.items in
+    let n = c.loop-node.node in
+    let x : Node = record { row = n; col = 0; value = c.whole.result; right = c.top.result; down = None } in
+    let h = c.loop-node.invariant in
+    let s = h.size in
+    let l : n < length xs = omega (arith, c.args.nodes.now.ok.0) in
+    freed_more xs (set xs n x) (length c.args.nodes.now.items) n x h (written xs n x l) refl c.whole.ensures c.top.ensures
+
+pub returns : goal.returns
+returns c =
+    let e : c.loop-node.node ≡ length c.args.nodes.now.items = omega (arith, c.args.nodes.now.ok.0) in
+    rw e at c.loop-node.invariant

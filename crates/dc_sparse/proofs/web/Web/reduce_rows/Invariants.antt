@@ -1,0 +1,15 @@
+use Rattle.std.proofs.Common.{◌≡◌, ◌≤◌, ◌-◌, length}
+use Rattle.dc_sparse.proofs.ColumnSteps.{AreDown}
+use Rattle.dc_sparse.proofs.web.Web.reduce_rows.Given as goal
+
+abbrev pub invariant-loop-next : goal.invariant-loop-next
+invariant-loop-next l = record {
+  down : AreDown l.initial.self.nodes.items l.self.nodes.items (length l.initial.self.col_heads.items) l.pivot l.col l.initial.self.spare l.self.spare l.done l.next;
+  arena : length l.self.nodes.items ≡ length l.initial.self.nodes.items;
+  height : length l.self.row_heads.items ≡ length l.initial.self.row_heads.items;
+  width : length l.self.col_heads.items ≡ length l.initial.self.col_heads.items;
+  within : l.done ≤ length l.initial.self.row_heads.items;
+}
+
+abbrev pub decreases-loop-next : goal.decreases-loop-next
+decreases-loop-next l = length l.initial.self.row_heads.items - l.done

@@ -1,0 +1,41 @@
+-- The laws of a tableau of linked nodes.
+use Rattle.std.specs.Prelude.{◌≡◌, ℕ, ◌<◌, ◌≤◌, true, false, pos, List, Contains, Option, Some}
+use Rattle.dc_math.specs.Rational.{of_ℤ}
+use Rattle.dc_lp.specs.Meanings.{IsPivotPlace}
+use Rattle.dc_lp.specs.Fill.{fill}
+use Rattle.dc_sparse.specs.declared.cross.Cross.{Cross}
+use Rattle.dc_sparse.specs.declared.web.Web.{Web}
+use Rattle.dc_sparse.specs.Nodes.{row_at, col_at, item, head_at, is_live}
+use Rattle.dc_sparse.specs.Webs.{IsVacant}
+use Rattle.dc_sparse.specs.Entries.{entry_at, StandsAt}
+use Rattle.dc_sparse.specs.Held.{nodes_of, node_count, height_of, width_of, rows_of, columns_of}
+use Rattle.dc_sparse.specs.Chains.{IsListOf, IsFreeListOf}
+use Rattle.dc_sparse.specs.Meanings.{cross_meaning, spare_of}
+
+-- the nodes of row i begin with this one, and those of column k with that one
+abbrev pub row_head : Web → ℕ → Option ℕ
+row_head w i = head_at w.row_heads.items i
+
+abbrev pub column_head : Web → ℕ → Option ℕ
+column_head w k = head_at w.col_heads.items k
+
+-- each row and each column has its list, and so have the free nodes. An index of the arena that holds an entry stands in the
+-- list of its row and in that of its column and not in that of the free nodes; any other stands in that one. What a node holds
+-- is the entry at its place, and where none stands the entry is 0.
+pub record IsHeld (w : Web) (rows columns : ℕ → List ℕ) (free : List ℕ) : Type 0 where
+  pub row_lists : (i : ℕ) → i < height_of w → IsListOf (rows_of w) (row_head w i) i (rows i)
+  pub column_lists : (k : ℕ) → k < width_of w → IsListOf (columns_of w) (column_head w k) k (columns k)
+  pub free_list : IsFreeListOf (nodes_of w) w.free w.spare free
+  pub linked : (a : ℕ) → a < node_count w → is_live (nodes_of w) a ≡ true
+      → Contains (rows (row_at (nodes_of w) a)) a × Contains (columns (col_at (nodes_of w) a)) a × ¬ Contains free a
+  pub unused : (a : ℕ) → a < node_count w → is_live (nodes_of w) a ≡ false → Contains free a
+  pub values : (a i k : ℕ) → StandsAt (nodes_of w) a i k → entry_at (nodes_of w) i k ≡ item (nodes_of w) a
+  pub zeros : (i k : ℕ) → IsVacant (nodes_of w) i k → entry_at (nodes_of w) i k ≡ of_ℤ (pos 0)
+
+abbrev pub HasLists : Type 0
+HasLists = (c : Cross) → (rows : ℕ → List ℕ) × (columns : ℕ → List ℕ) × (free : List ℕ) × IsHeld c.web rows columns free
+
+-- a tableau that is ready for a pivot has as many free nodes as the pivot fills places
+abbrev pub HasRoom : Type 0
+HasRoom = (c : Cross) (r j : ℕ) → c.ready ≡ Some (r, j) → IsPivotPlace (cross_meaning c).table r j
+    → fill (cross_meaning c).table r j ≤ spare_of c

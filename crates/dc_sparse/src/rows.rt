@@ -1,0 +1,224 @@
+//! Rows of a pivot.
+#![tactic(auto)]
+
+ghost use Rattle.std.specs.Prelude.{◌≡◌, ◌≢◌, ◌+◌, ◌<◌, ◌≤◌, ◌||◌, ◌==◌, IsTrue, IfSome, cond, true, false};
+ghost use Rattle.dc_math.specs.Tests.{is_zero};
+ghost use Rattle.dc_frac.specs.Value.{value, IsChecked};
+ghost use Rattle.dc_start.specs.Changes.{step_fits};
+ghost use Rattle.dc_sparse.specs.Lines.{IsLast};
+ghost use Rattle.dc_sparse.specs.Entries.{entry_at};
+ghost use Rattle.dc_sparse.specs.Pivots.{entries_fit, ArePivoted};
+ghost use Rattle.dc_sparse.specs.Rows.{IsFirstNegative, reductions_fit, reduced_entry, row_gaps, AreReduced, KeepsRows};
+ghost use Rattle.dc_sparse.specs.Rows.{divisions_fit, AreDivided, rows_gaps, rows_fit, RowsAreReduced};
+ghost use Rattle.dc_sparse.specs.Held.{nodes_of, node_count, height_of, width_of, rows_of};
+
+use crate::web::Web;
+use dc_frac::Frac;
+use dc_start::step;
+
+impl Web {
+    /// Takes `factor` times row `pivot` from another row. Column `col` becomes 0. Whether it fits; where it doesn't, the row is left
+    /// half done. It takes no memory.
+    pub(crate) fn reduce_row(&mut self, row: usize, pivot: usize, col: usize, factor: Frac) -> bool
+        requires row { row < height_of self.old }
+        requires pivot { pivot < height_of self.old }
+        requires other { pivot ≢ row }
+        requires entry { is_zero (entry_at (nodes_of self.old) pivot col) ≡ false }
+        requires spare { row_gaps (nodes_of self.old) row pivot (width_of self.old) ≤ self.old.spare }
+        ensures fits { result ≡ reductions_fit (nodes_of self.old) row pivot col (value factor) (width_of self.old) }
+        ensures reduced { IsTrue result
+            → AreReduced (nodes_of self.old) (nodes_of self.new) row pivot col (value factor) (width_of self.old) }
+        ensures others { KeepsRows (nodes_of self.old) (nodes_of self.new) row }
+        ensures spare { IsTrue result → self.old.spare ≤ self.new.spare + row_gaps (nodes_of self.old) row pivot (width_of self.old) }
+        ensures arena { node_count self.new ≡ node_count self.old }
+        ensures height { height_of self.new ≡ height_of self.old }
+        ensures width { width_of self.new ≡ width_of self.old }
+    {
+        let mut left = None;
+        let mut done = 0;
+        let mut source = self.right_of(pivot, None);
+        while let Some(node) = source {
+            let at = self.nodes[node].col;
+            let by = self.nodes[node].value;
+            left = self.left_of(row, at, left);
+            match self.entry_after(row, at, col, factor, by, left) {
+                Some(entry) => self.put(row, at, entry, left, None),
+                None => return false,
+            }
+            done = at + 1;
+            source = self.nodes[node].right;
+        }
+        true
+    }
+
+    /// Makes the pivot at a place with an entry. Whether it fits; where it doesn't, the rows are left half done. It takes no memory.
+    pub(crate) fn pivot(&mut self, row: usize, col: usize) -> bool
+        requires row { row < height_of self.old }
+        requires col { col < width_of self.old }
+        requires entry { is_zero (entry_at (nodes_of self.old) row col) ≡ false }
+        requires spare { rows_gaps (nodes_of self.old) (width_of self.old) row col (height_of self.old) ≤ self.old.spare }
+        ensures fits { result ≡ entries_fit (nodes_of self.old) (width_of self.old) (height_of self.old) row col }
+        ensures pivoted { IsTrue result
+            → ArePivoted (nodes_of self.old) (nodes_of self.new) (width_of self.old) (height_of self.old) row col }
+        ensures arena { node_count self.new ≡ node_count self.old }
+        ensures height { height_of self.new ≡ height_of self.old }
+        ensures width { width_of self.new ≡ width_of self.old }
+    {
+        let by = self.entry(row, col);
+        self.divide_row(row, by) && self.reduce_rows(row, col)
+    }
+
+    /// Divides a row. Whether the quotients fit; where they don't, the row is left half done. It takes no memory.
+    pub(crate) fn divide_row(&mut self, row: usize, by: Frac) -> bool
+        requires row { row < height_of self.old }
+        requires nonzero { is_zero (value by) ≡ false }
+        ensures fits { result ≡ divisions_fit (nodes_of self.old) row (value by) (width_of self.old) }
+        ensures divided { IsTrue result → AreDivided (nodes_of self.old) (nodes_of self.new) row (value by) (width_of self.old) }
+        ensures others { KeepsRows (nodes_of self.old) (nodes_of self.new) row }
+        ensures spare { self.new.spare ≡ self.old.spare }
+        ensures arena { node_count self.new ≡ node_count self.old }
+        ensures height { height_of self.new ≡ height_of self.old }
+        ensures width { width_of self.new ≡ width_of self.old }
+    {
+        let mut done = 0;
+        let mut next = self.right_of(row, None);
+        while let Some(node) = next {
+            let at = self.nodes[node].col;
+            match self.nodes[node].value.div(by) {
+                Some(quotient) => self.set(node, quotient),
+                None => return false,
+            }
+            done = at + 1;
+            next = self.nodes[node].right;
+        }
+        true
+    }
+
+    /// Reduces every row but `pivot` that has an entry in column `col`. Whether it fits; where it doesn't, the rows are left half done.
+    /// It takes no memory.
+    pub(crate) fn reduce_rows(&mut self, pivot: usize, col: usize) -> bool
+        requires pivot { pivot < height_of self.old }
+        requires col { col < width_of self.old }
+        requires entry { is_zero (entry_at (nodes_of self.old) pivot col) ≡ false }
+        requires spare { rows_gaps (nodes_of self.old) (width_of self.old) pivot col (height_of self.old) ≤ self.old.spare }
+        ensures fits { result ≡ rows_fit (nodes_of self.old) (width_of self.old) pivot col (height_of self.old) }
+        ensures reduced { IsTrue result
+            → RowsAreReduced (nodes_of self.old) (nodes_of self.new) (width_of self.old) pivot col (height_of self.old) }
+        ensures arena { node_count self.new ≡ node_count self.old }
+        ensures height { height_of self.new ≡ height_of self.old }
+        ensures width { width_of self.new ≡ width_of self.old }
+    {
+        let mut done = 0;
+        let mut next = self.down_of(col, None);
+        while let Some(node) = next {
+            let row = self.nodes[node].row;
+            let factor = self.nodes[node].value;
+            next = self.nodes[node].down;
+            if row != pivot {
+                if !self.reduce_row(row, pivot, col, factor) {
+                    return false;
+                }
+            }
+            done = row + 1;
+        }
+        true
+    }
+
+    /// In how many columns row `pivot` has an entry and another row has none.
+    fn row_gaps(&self, row: usize, pivot: usize) -> usize
+        requires row { row < height_of self.now }
+        requires pivot { pivot < height_of self.now }
+        ensures { result ≡ row_gaps (nodes_of self.now) row pivot (width_of self.now) }
+    {
+        let mut count = 0;
+        let mut left = None;
+        let mut done = 0;
+        let mut source = self.right_of(pivot, None);
+        while let Some(node) = source {
+            let at = self.nodes[node].col;
+            left = self.left_of(row, at, left);
+            count += self.gap_at(row, at, left);
+            done = at + 1;
+            source = self.nodes[node].right;
+        }
+        count
+    }
+
+    /// The least of the columns before `limit` in which a row has a negative entry.
+    pub(crate) fn first_negative(&self, row: usize, limit: usize) -> Option<usize>
+        requires row { row < height_of self.now }
+        ensures { IsFirstNegative (nodes_of self.now) row limit result }
+    {
+        let mut done = 0;
+        let mut next = self.right_of(row, None);
+        while let Some(node) = next {
+            let at = self.nodes[node].col;
+            if at >= limit {
+                return None;
+            }
+            if self.nodes[node].value.is_negative() {
+                return Some(at);
+            }
+            done = at + 1;
+            next = self.nodes[node].right;
+        }
+        None
+    }
+
+    /// 1 where a place has no entry, and else 0.
+    fn gap_at(&self, row: usize, col: usize, left: Option<usize>) -> usize
+        requires row { row < height_of self.now }
+        requires left { IsLast (rows_of self.now) row col left }
+        ensures { result ≡ cond (is_zero (entry_at (nodes_of self.now) row col)) 1 0 }
+    {
+        match self.node_at(row, col, left) {
+            Some(_) => 0,
+            None => 1,
+        }
+    }
+
+    /// How many entries the pivot at a place makes from 0; `None` where that passes 64 bits.
+    pub(crate) fn gaps(&self, pivot: usize, col: usize) -> Option<usize>
+        requires pivot { pivot < height_of self.now }
+        requires col { col < width_of self.now }
+        ensures { IfSome result (λ n. n ≡ rows_gaps (nodes_of self.now) (width_of self.now) pivot col (height_of self.now)) }
+    {
+        let mut count: usize = 0;
+        let mut done = 0;
+        let mut next = self.down_of(col, None);
+        while let Some(node) = next {
+            let row = self.nodes[node].row;
+            if row != pivot {
+                count = count.checked_add(self.row_gaps(row, pivot))?;
+            }
+            done = row + 1;
+            next = self.nodes[node].down;
+        }
+        Some(count)
+    }
+
+    /// What the entry in a column of a row becomes, where the pivot's row has `by` there.
+    fn entry_after(
+        &self,
+        row: usize,
+        at: usize,
+        col: usize,
+        factor: Frac,
+        by: Frac,
+        left: Option<usize>,
+    ) -> Option<Frac>
+        requires row { row < height_of self.now }
+        requires left { IsLast (rows_of self.now) row at left }
+        ensures { let old = entry_at (nodes_of self.now) row at in
+            IsChecked result (at == col || step_fits (value factor) (value by) old)
+            (reduced_entry at col (value factor) (value by) old) }
+    {
+        if at == col {
+            return Some(Frac::whole(0));
+        }
+        match self.node_at(row, at, left) {
+            Some(node) => step(self.nodes[node].value, factor, by),
+            None => step(Frac::whole(0), factor, by),
+        }
+    }
+}

@@ -1,0 +1,156 @@
+//! Nodes of an arena, linked in rows and in columns. Those that hold nothing stand in a list of their own.
+#![tactic(auto)]
+
+ghost use Rattle.std.specs.Prelude.{◌≡◌, ℕ, ◌<◌, [], None};
+ghost use Rattle.dc_frac.specs.Value.{value};
+ghost use Rattle.dc_sparse.specs.Lines.{IsFirst, IsLast, IsStop, StandsBefore, place_after};
+ghost use Rattle.dc_sparse.specs.Webs.{free_count, IsWoven};
+ghost use Rattle.dc_sparse.specs.Entries.{entry_at, IsNodeAt};
+ghost use Rattle.dc_sparse.specs.Sizes.{held_count, live_count};
+ghost use Rattle.dc_sparse.specs.Props.{IsWoven_prop};
+
+use dc_frac::Frac;
+use std::alloc::Global;
+
+/// A node at a row and a column, with a value and the nodes that follow it in its row and in its column.
+/// Where it is free its value is 0, `row` is how many free nodes stand behind it in the list of these, and `right` is the next of them.
+#[derive(Clone, Copy, Drop)]
+pub(crate) struct Node {
+    pub row: usize,
+    pub col: usize,
+    pub value: Frac,
+    pub right: Option<usize>,
+    pub down: Option<usize>,
+}
+
+/// Nodes, and which of them begin the rows, the columns and the list of free nodes. `spare` counts the free ones.
+#[derive(Drop)]
+pub(crate) struct Web {
+    pub nodes: Vec<Node>,
+    pub row_heads: Vec<Option<usize>>,
+    pub col_heads: Vec<Option<usize>>,
+    pub free: Option<usize>,
+    pub spare: usize,
+    pub ghost woven: { IsWoven nodes.items row_heads.items col_heads.items free spare } by { IsWoven_prop nodes.items row_heads.items col_heads.items free spare },
+}
+
+impl Web {
+    ghost use Rattle.dc_sparse.specs.Held.{nodes_of, node_count, height_of, width_of, rows_of, columns_of};
+
+    /// A web without nodes, rows and columns. It takes no memory.
+    pub(crate) fn new(alloc: Global) -> Web
+        ensures nodes { result.nodes.items ≡ [] }
+        ensures rows { result.row_heads.items ≡ [] }
+        ensures columns { result.col_heads.items ≡ [] }
+        ensures spare { result.spare ≡ 0 }
+    {
+        Web {
+            nodes: Vec::new(alloc),
+            row_heads: Vec::new(alloc),
+            col_heads: Vec::new(alloc),
+            free: None,
+            spare: 0,
+        }
+    }
+
+    /// How many nodes are free.
+    pub(crate) fn spare(&self) -> usize
+        ensures { result ≡ free_count (nodes_of self.now) }
+    {
+        self.spare
+    }
+
+    /// How many nodes are linked.
+    pub(crate) fn live(&self) -> usize
+        ensures nodes { result ≡ live_count (nodes_of self.now) }
+        ensures entries { result ≡ held_count (nodes_of self.now) (height_of self.now) (width_of self.now) }
+    {
+        self.nodes.len() - self.spare
+    }
+
+    /// What follows `left` in a row, and what begins the row where `left` is `None`.
+    pub(crate) fn right_of(&self, row: usize, left: Option<usize>) -> Option<usize>
+        requires row { row < height_of self.now }
+        requires left { IsStop (rows_of self.now) row left }
+        ensures { IsFirst (rows_of self.now) row (place_after (rows_of self.now) left) result }
+    {
+        match left {
+            None => self.row_heads[row],
+            Some(left) => self.nodes[left].right,
+        }
+    }
+
+    /// The same in a column.
+    pub(crate) fn down_of(&self, col: usize, above: Option<usize>) -> Option<usize>
+        requires col { col < width_of self.now }
+        requires above { IsStop (columns_of self.now) col above }
+        ensures { IsFirst (columns_of self.now) col (place_after (columns_of self.now) above) result }
+    {
+        match above {
+            None => self.col_heads[col],
+            Some(above) => self.nodes[above].down,
+        }
+    }
+
+    /// The last node of a row before a column, sought from `from` on.
+    pub(crate) fn left_of(&self, row: usize, col: usize, from: Option<usize>) -> Option<usize>
+        requires row { row < height_of self.now }
+        requires from { StandsBefore (rows_of self.now) row col from }
+        ensures { IsLast (rows_of self.now) row col result }
+    {
+        let mut left = from;
+        let mut next = self.right_of(row, from);
+        while let Some(node) = next {
+            if self.nodes[node].col >= col {
+                return left;
+            }
+            left = next;
+            next = self.nodes[node].right;
+        }
+        left
+    }
+
+    /// The last node of a column before a row, sought from `from` on.
+    pub(crate) fn above_of(&self, col: usize, row: usize, from: Option<usize>) -> Option<usize>
+        requires col { col < width_of self.now }
+        requires from { StandsBefore (columns_of self.now) col row from }
+        ensures { IsLast (columns_of self.now) col row result }
+    {
+        let mut above = from;
+        let mut next = self.down_of(col, from);
+        while let Some(node) = next {
+            if self.nodes[node].row >= row {
+                return above;
+            }
+            above = next;
+            next = self.nodes[node].down;
+        }
+        above
+    }
+
+    /// The node at a place, which stands behind `left` in its row.
+    pub(crate) fn node_at(&self, row: usize, col: usize, left: Option<usize>) -> Option<usize>
+        requires row { row < height_of self.now }
+        requires left { IsLast (rows_of self.now) row col left }
+        ensures { IsNodeAt (nodes_of self.now) row col result }
+    {
+        let node = self.right_of(row, left)?;
+        if self.nodes[node].col == col {
+            Some(node)
+        } else {
+            None
+        }
+    }
+
+    /// The entry at a place.
+    pub(crate) fn entry(&self, row: usize, col: usize) -> Frac
+        requires row { row < height_of self.now }
+        ensures { value result ≡ entry_at (nodes_of self.now) row col }
+    {
+        let left = self.left_of(row, col, None);
+        match self.node_at(row, col, left) {
+            Some(node) => self.nodes[node].value,
+            None => Frac::whole(0),
+        }
+    }
+}
