@@ -3,7 +3,6 @@ use crate::tables::{at, problem};
 use dc_frac::{Frac, MAX};
 use dc_lp::{
     Entry, Problem, Verdict, add_term, check_dual, check_primal, check_ray, check_refutation, dot,
-    price,
 };
 use std::process::Abort;
 use std::test::Fail;
@@ -117,9 +116,6 @@ fn folds(rt: HostRuntime) -> Result<(), Fail> {
     let [half, third, most] = [Frac::new(1, 2), Frac::new(1, 3), Frac::whole(MAX)];
     let result = Some(Frac::new(-1, 6));
     assert_eq!(rt; dot(&[3, 0, -5], &[half, most, third]), result);
-    let p = problem(rt.alloc(), &[&[at(0, 3), at(2, -5)]], &[0, 0, 0], &[0])?;
-    assert!(rt; p.is_well_formed() && p.rows == 3 && p.columns.len() == 1);
-    assert_eq!(rt; price(&p.columns[0], &[half, most, third]), result);
     assert_eq!(rt; add_term(Frac::new(3, 2), -5, third), result);
     assert_eq!(rt;
         dot(&[1, 1, -1], &[most, Frac::whole(1), Frac::whole(1)]),
