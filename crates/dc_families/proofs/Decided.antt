@@ -3,8 +3,8 @@ use Rattle.std.specs.Prelude.{◌≡◌, ◌⊎◌, ℕ, zero, suc, ◌+◌, ◌
 use Rattle.std.proofs.Common.{refl, sym, ◌∙◌, ap, subst, inl, inr, arith, length-append}
 use Rattle.std.proofs.lemmas.Int.{ints}
 use Rattle.dc_math.specs.WholeVectors.{dot_ℤ}
-use Rattle.dc_math.specs.Rational.{ℚ, of_ℤ}
-use Rattle.dc_math.specs.Tests.{le_ℚ, le_ℚ-true, le_ℚ_true}
+use Rattle.dc_math.specs.Rational.{ℚ, of_ℤ, le_ℚ}
+use Rattle.dc_math.specs.Tests.{le_ℚ-true, le_ℚ_true}
 use Rattle.dc_affine.specs.declared.atom.Atom.{Atom}
 use Rattle.dc_points.specs.Points.{Point, left_at, MeetsAt, Entails, AreOver, IsDead}
 use Rattle.dc_points.specs.Laws.{HasLeast}
@@ -71,12 +71,12 @@ module _ (hyps : List Atom) (a : Atom) where
 
   decide : Decided (Entails hyps a)
   decide = elim (lists_dead_or_met hyps m (over m hyps (omega arith))) [
-      inl d ↦ inl (λ p k. absurd (d p k))
+    | inl d ↦ inl (λ p k. absurd (d p k))
     | inr q ↦ elim (least_or_none hyps form (over (length form) hyps long) (λ d. d q.0 q.1)) [
-        inl h ↦ by_least h
+      | inl h ↦ by_least h
       | inr n ↦ inr (λ k. n (of_ℤ a.c0) ((atoms_are_forms hyps form a.c0).0 (wide k)))
-      ]
     ]
+  ]
 
 pub entailment_is_decided : EntailmentIsDecided
 entailment_is_decided hyps a = decide hyps a

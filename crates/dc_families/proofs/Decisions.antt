@@ -40,6 +40,7 @@ decide_each {A = A} P d (y ∷ xs) = by (d y) (decide_each P d xs)
     both : P y → ((x : A) → Among x xs → P x) → (x : A) → Among x (y ∷ xs) → P x
     both p f _ head = p
     both p f x (tail m) = f x m
+
     by : Decided (P y) → Decided ((x : A) → Among x xs → P x) → Decided ((x : A) → Among x (y ∷ xs) → P x)
     by (inl p) (inl f) = inl (both p f)
     by (inl p) (inr f) = inr (λ g. f (λ x m. g x (tail m)))
@@ -69,9 +70,9 @@ below_zero d h k = omega (arith, ints)
 
 pub decide_dead : (hyps : List Atom) → Decided (IsDead hyps)
 decide_dead hyps = elim (entailment_is_decided hyps (never 0)) [
-    inl e ↦ inl (λ p m. below_zero p.denominator p.positive (e p m))
+  | inl e ↦ inl (λ p m. below_zero p.denominator p.positive (e p m))
   | inr e ↦ inr (λ d. e (λ p m. absurd (d p m)))
-  ]
+]
 
 module _ (s : Graph) (cases : List (List Atom)) (c : Candidates) (J : Family) (h : HasCandidates s c J) where
   decide_edge : (e : Edge) (a : Atom) → Decided (EdgeGives s J e a)
@@ -79,21 +80,25 @@ module _ (s : Graph) (cases : List (List Atom)) (c : Candidates) (J : Family) (h
     where
       atoms : List Atom
       atoms = all_held s.vars c J e.from ++ e.guard
+
       there : (p : Point) → MeetsFamily J e.from p → MeetsAll p e.guard → MeetsAll p atoms
       there p m g = all_both (MeetsAt p) _ e.guard (met_all s.vars c J e.from p m) g
+
       back : (p : Point) → MeetsAll p atoms → MeetsFamily J e.from p
       back p m = all_met s c J e.from p h (all_left (MeetsAt p) _ e.guard m)
+
       guard : (p : Point) → MeetsAll p atoms → MeetsAll p e.guard
       guard p m = all_right (MeetsAt p) (all_held s.vars c J e.from) e.guard m
+
       by : (b : Bool) → is_affine_after e a.coefs ≡ b → Decided (EdgeGives s J e a)
       by true t = elim (entailment_is_decided atoms (atom_after s.vars e a)) [
-          inl d ↦ inl (λ p m g. (t, d p (there p m g)))
+        | inl d ↦ inl (λ p m g. (t, d p (there p m g)))
         | inr d ↦ inr (λ f. d (λ p m. (f p (back p m) (guard p m)).1))
-        ]
+      ]
       by false t = elim (decide_dead atoms) [
-          inl d ↦ inl (λ p m g. absurd (d p (there p m g)))
+        | inl d ↦ inl (λ p m g. absurd (d p (there p m g)))
         | inr d ↦ inr (λ f. d (λ p m. differ (sym (f p (back p m) (guard p m)).0 ∙ t)))
-        ]
+      ]
 
   pub decide_given : (l : ℕ) (a : Atom) → Decided (IsGiven s cases J l a)
   decide_given l a =
@@ -111,8 +116,9 @@ module _ (s : Graph) (cases : List (List Atom)) (c : Candidates) (J : Family) (h
 
   pub is_round : IsRound s cases J after_round
   is_round l a = (
-      (λ k. let b = and_parts _ _ k in (b.0, answer_true (decide_given l a) b.1)),
-      (λ k. and_from _ _ k.0 (true_answer (decide_given l a) k.1)))
+    (λ k. let b = and_parts _ _ k in (b.0, answer_true (decide_given l a) b.1)),
+    (λ k. and_from _ _ k.0 (true_answer (decide_given l a) k.1)),
+  )
 
 pub has_round : HasRound
 has_round s cases c J h = (after_round s cases c J h, is_round s cases c J h)

@@ -54,38 +54,43 @@ module _ (s : Graph) (cases : List (List Atom)) (c : Candidates) (J : Family) (l
 
   besides_is : (k : ℕ) (a : Atom) → besides k a ≡ true → (J k a ≡ true) ⊎ ((k ≡ l) × (a ≡ never s.vars))
   besides_is k a t = elim (either _ _ t) [
-      inl h ↦ inl h
+    | inl h ↦ inl h
     | inr h ↦ let b = and_parts _ _ h in inr ((Decides-eqb k l).0 b.0, same_atom_is a (never s.vars) b.1)
-    ]
+  ]
 
   unmet : (p : Point) → MeetsFamily J l p → ⊥
   unmet p m = dead p ((lists_are_families s c J l p kind g.candidates).1 m)
 
   given : IsGiven s cases besides l (never s.vars)
   given = record {
-    entry = λ e case i p m. absurd (unmet (start s.params p) (record { each = λ b j.
-      subst (λ v. pos 0 ≤ℤ v) (left_start s.params b p) ((g.inductive l b j).entry e case i p m) }));
-    edges = λ e i f p m h. absurd (unmet (image s.vars e p) (record { each = λ b j.
-      subst (λ v. pos 0 ≤ℤ v) (left_image s.vars p e b) ((g.inductive l b j).edges e i f p (fewer_met J besides e.from p more m) h).1 }));
+    entry = λ e case i p m. absurd (unmet (start s.params p) (record {
+      each = λ b j.
+          subst (λ v. pos 0 ≤ℤ v) (left_start s.params b p) ((g.inductive l b j).entry e case i p m);
+    }));
+    edges = λ e i f p m h. absurd (unmet (image s.vars e p) (record {
+      each = λ b j.
+          subst (λ v. pos 0 ≤ℤ v) (left_image s.vars p e b) ((g.inductive l b j).edges e i f p (fewer_met J besides e.from p more m) h).1;
+    }));
   }
 
   inductive : IsInductive s cases besides
   inductive k a t = elim (besides_is k a t) [
-      inl j ↦ given_within s cases J besides k a more (g.inductive k a j)
+    | inl j ↦ given_within s cases J besides k a more (g.inductive k a j)
     | inr j ↦ subst (λ i. IsGiven s cases besides i a) (sym j.0) (subst (IsGiven s cases besides l) (sym j.1) given)
-    ]
+  ]
 
   candidates : (k : ℕ) (a : Atom) → besides k a ≡ true → everything s c k a ≡ true
   candidates k a t = elim (besides_is k a t) [
-      inl j ↦ g.candidates k a j
+    | inl j ↦ g.candidates k a j
     | inr j ↦ subst (λ i. everything s c i a ≡ true) (sym j.0) (in_everything s c l a inside (subst (λ b. Among b (candidate_atoms s.vars c)) (sym j.1) head))
-    ]
+  ]
 
   has_false : J l (never s.vars) ≡ true
   has_false = g.contains besides candidates inductive l (never s.vars) (here (J l (never s.vars)))
     where
       yes : (eqb l l && same_atom (never s.vars) (never s.vars)) ≡ true
       yes = rw ((Decides-eqb l l).1 refl, same_atom_self (never s.vars)) refl
+
       here : (b : Bool) → (b || (eqb l l && same_atom (never s.vars) (never s.vars))) ≡ true
       here true = refl
       here false = yes

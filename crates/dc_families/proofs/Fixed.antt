@@ -28,16 +28,16 @@ module _ (s : Graph) (cases : List (List Atom)) (c : Candidates) where
       let K = after_round s cases c J h.candidates in
       let r = is_round s cases c J h.candidates in
       elim (all_or_fewer s c J K h.candidates (round_within s cases J K r)) [
-          inl all ↦ inl (round_stable J K r all)
+        | inl all ↦ inl (round_stable J K r all)
         | inr fewer ↦ inr (K, above_round s cases c J K h r, r, fewer)
-        ]
+      ]
 
   comes : (n : ℕ) (J : Family) → IsAbove s cases c J → size J < n → (K : Family) × IsGreatest s cases c K
   comes zero J h w = absurd (omega arith)
   comes (suc n) J h w = elim (step J h) [
-      inl r ↦ (J, above_stable s cases c J h r)
+    | inl r ↦ (J, above_stable s cases c J h r)
     | inr k ↦ let m = k.3 in comes n k.0 k.1 (omega arith)
-    ]
+  ]
 
 pub has_greatest : HasGreatest
 has_greatest s cases c = comes s cases c (suc (size s cases c (everything s c))) (everything s c) (above_all s cases c) (omega arith)

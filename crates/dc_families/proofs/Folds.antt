@@ -44,13 +44,13 @@ module _ (s : System) (l : ℕ) (c : Edge) (w : IsWellFormed s) (h : fold_at s.v
   graph = record {
     params_first = w.params_first;
     ends = among_each (EndsWithin s.locs) _ (λ g i. elim (was s.vars (s.locs - 1) l s.edges c J g i) [
-        inl e ↦ subst (EndsWithin s.locs) (sym e) ends
+      | inl e ↦ subst (EndsWithin s.locs) (sym e) ends
       | inr o ↦ each_among (EndsWithin s.locs) w.ends o.0
-      ]);
+    ]);
     edges = among_each (IsEdge s.vars) _ (λ g i. elim (was s.vars (s.locs - 1) l s.edges c J g i) [
-        inl e ↦ subst (IsEdge s.vars) (sym e) shape
+      | inl e ↦ subst (IsEdge s.vars) (sym e) shape
       | inr o ↦ each_among (IsEdge s.vars) w.edges o.0
-      ]);
+    ]);
   }
 
 pub folds_are_graphs : FoldsAreGraphs

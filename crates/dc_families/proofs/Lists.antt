@@ -26,16 +26,16 @@ among_flat f x y (z ∷ xs) (tail k) m = among-right (f z) (among_flat f x y xs 
 pub among_flat_back : {A B : Type 0} (f : A → List B) (y : B) (xs : List A) → Among y (flat_map f xs) → (x : A) × Among x xs × Among y (f x)
 among_flat_back f y [] m = elim m [ ]
 among_flat_back f y (z ∷ xs) m = elim (among-++ (f z) m) [
-    inl k ↦ (z, head, k)
+  | inl k ↦ (z, head, k)
   | inr k ↦ let r = among_flat_back f y xs k in (r.0, tail r.1, r.2)
-  ]
+]
 
 pub among_range : (k a n : ℕ) → a ≤ k → k < a + n → Among k (range_with_len a n)
 among_range k a zero h l = absurd (omega arith)
 among_range k a (suc n) h l = elim (cases_lt a k) [
-    inl m ↦ tail (among_range k (a + 1) n (omega arith) (omega arith))
+  | inl m ↦ tail (among_range k (a + 1) n (omega arith) (omega arith))
   | inr m ↦ let s : a ≡ k = omega arith in subst (λ i. Among i (a ∷ range_with_len (a + 1) n)) s head
-  ]
+]
 
 pub among_range_back : (k a n : ℕ) → Among k (range_with_len a n) → (a ≤ k) × (k < a + n)
 among_range_back k a zero m = elim m [ ]

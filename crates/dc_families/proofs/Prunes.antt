@@ -92,9 +92,9 @@ module _ (c : Candidates) (J : Family) (l : ℕ) where
   has_pruned (suc n) rows back e =
       let v = last_of n rows e in
       elim (entailment_is_decided (atoms_of c J l (v.front ++ back)) (atom v.end)) [
-          inl y ↦ let h = has_pruned n v.front back v.shorter in (h.0, question v.end (v.front ++ back) ∷ h.1, drops v.end v.is y h.2)
+        | inl y ↦ let h = has_pruned n v.front back v.shorter in (h.0, question v.end (v.front ++ back) ∷ h.1, drops v.end v.is y h.2)
         | inr y ↦ let h = has_pruned n v.front (v.end ∷ back) v.shorter in (h.0, question v.end (v.front ++ back) ∷ h.1, keeps v.end v.is y h.2)
-        ]
+      ]
 
   has_printed_at : (n : ℕ) → (printed : List Atom) × (asked : List Question) × IsPrinted c J l n printed asked
   has_printed_at n = by (J l (never n)) refl
@@ -109,16 +109,16 @@ module _ (c : Candidates) (J : Family) (l : ℕ) where
   pruned_some : {rows back left : List ℕ} {asked : List Question} → Pruned c J l rows back asked left → (r : ℕ) → Among r left → Among r (rows ++ back)
   pruned_some done r m = m
   pruned_some {back = back} (drops {front = f} t e n rest) r m = elim (among-++ f (pruned_some rest r m)) [
-      inl k ↦ among-left back (subst (Among r) (sym e) (among-left (t ∷ []) k))
+    | inl k ↦ among-left back (subst (Among r) (sym e) (among-left (t ∷ []) k))
     | inr k ↦ among-right _ k
-    ]
+  ]
   pruned_some {back = back} (keeps {front = f} t e n rest) r m = elim (among-++ f (pruned_some rest r m)) [
-      inl k ↦ among-left back (subst (Among r) (sym e) (among-left (t ∷ []) k))
+    | inl k ↦ among-left back (subst (Among r) (sym e) (among-left (t ∷ []) k))
     | inr k ↦ elim (among_cons r t back k) [
-        inl s ↦ among-left back (subst (Among r) (sym e) (among-right f (subst (λ x. Among x (t ∷ [])) (sym s) head)))
+      | inl s ↦ among-left back (subst (Among r) (sym e) (among-right f (subst (λ x. Among x (t ∷ [])) (sym s) head)))
       | inr i ↦ among-right _ i
-      ]
     ]
+  ]
 
   module _ (p : Point) where
     abbrev Met : List ℕ → Type 0
@@ -135,21 +135,21 @@ module _ (c : Candidates) (J : Family) (l : ℕ) where
     pruned_met {rows = rows} {back = back} (drops {front = f} t e n rest) h r m =
         let k = pruned_met rest h in
         elim (among-++ rows m) [
-            inl i ↦ elim (among-++ f (subst (Among r) e i)) [
-                inl j ↦ k r (among-left back j)
-              | inr j ↦ elim (among_cons r t [] j) [ inl s ↦ subst (λ x. MeetsAt p (atom x)) (sym s) (n p (met_list _ k)) | inr z ↦ none_among z ]
-              ]
-          | inr i ↦ k r (among-right f i)
+          | inl i ↦ elim (among-++ f (subst (Among r) e i)) [
+            | inl j ↦ k r (among-left back j)
+            | inr j ↦ elim (among_cons r t [] j) [ inl s ↦ subst (λ x. MeetsAt p (atom x)) (sym s) (n p (met_list _ k)) | inr z ↦ none_among z ]
           ]
+          | inr i ↦ k r (among-right f i)
+        ]
     pruned_met {rows = rows} {back = back} (keeps {front = f} t e n rest) h r m =
         let k = pruned_met rest h in
         elim (among-++ rows m) [
-            inl i ↦ elim (among-++ f (subst (Among r) e i)) [
-                inl j ↦ k r (among-left (t ∷ back) j)
-              | inr j ↦ elim (among_cons r t [] j) [ inl s ↦ k r (among-right f (subst (λ x. Among x (t ∷ back)) (sym s) head)) | inr z ↦ none_among z ]
-              ]
-          | inr i ↦ k r (among-right f (tail i))
+          | inl i ↦ elim (among-++ f (subst (Among r) e i)) [
+            | inl j ↦ k r (among-left (t ∷ back) j)
+            | inr j ↦ elim (among_cons r t [] j) [ inl s ↦ k r (among-right f (subst (λ x. Among x (t ∷ back)) (sym s) head)) | inr z ↦ none_among z ]
           ]
+          | inr i ↦ k r (among-right f (tail i))
+        ]
 
     printed_says : (n : ℕ) (printed : List Atom) (asked : List Question) → IsPrinted c J l n printed asked → MeetsAll p printed ↔ MeetsAll p (atoms_at n c J l)
     printed_says n printed asked h = by (J l (never n)) refl
@@ -158,10 +158,10 @@ module _ (c : Candidates) (J : Family) (l : ℕ) where
         by true e = let x = h.dead e in ((λ m. subst (MeetsAll p) x.0 m), (λ m. subst (MeetsAll p) (sym x.0) m))
         by false e =
             let x = h.other e in
-            let rows = kept_rows c J l in
-            (
+            let rows = kept_rows c J l in (
               (λ m. met_list rows (λ r i. pruned_met x.pruned (list_met x.left (subst (MeetsAll p) x.is m)) r (among-left [] i))),
-              (λ m. subst (MeetsAll p) (sym x.is) (met_list x.left (λ r i. list_met rows m r (subst (Among r) (append-nil rows) (pruned_some x.pruned r i))))))
+              (λ m. subst (MeetsAll p) (sym x.is) (met_list x.left (λ r i. list_met rows m r (subst (Among r) (append-nil rows) (pruned_some x.pruned r i))))),
+            )
 
   -- each printed atom is one of the family
   printed_there : (n : ℕ) (printed : List Atom) (asked : List Question) → IsPrinted c J l n printed asked → (a : Atom) → Among a printed → J l a ≡ true
@@ -178,24 +178,27 @@ module _ (c : Candidates) (J : Family) (l : ℕ) where
 pub one_printed_each : OnePrinted
 one_printed_each s c J p q ps qs h k =
     let one : (l : ℕ) → l < s.locs → (slice_index_or p l [] ≡ slice_index_or q l []) × (slice_index_or ps l [] ≡ slice_index_or qs l []) =
-        λ l i. one_printed c J l s.vars _ _ _ _ (h.each l i) (k.each l i) in
-    (
+    λ l i. one_printed c J l s.vars _ _ _ _ (h.each l i) (k.each l i) in (
       same_lists [] p q (h.one_each ∙ sym k.one_each) (λ l i. (one l (let e = h.one_each in omega arith)).0),
-      same_lists [] ps qs (h.one_part_each ∙ sym k.one_part_each) (λ l i. (one l (let e = h.one_part_each in omega arith)).1))
+      same_lists [] ps qs (h.one_part_each ∙ sym k.one_part_each) (λ l i. (one l (let e = h.one_part_each in omega arith)).1),
+    )
 
 pub has_printed : HasPrinted
 has_printed s c J =
     let at : (l : ℕ) → (printed : List Atom) × (asked : List Question) × IsPrinted c J l s.vars printed asked = λ l. has_printed_at c J l s.vars in
     let printed = map (λ l. (at l).0) (range_with_len 0 s.locs) in
-    let asked = map (λ l. (at l).1) (range_with_len 0 s.locs) in
-    (printed, asked, record {
-      one_each = length-map-range_with_len (λ l. (at l).0) 0 s.locs;
-      one_part_each = length-map-range_with_len (λ l. (at l).1) 0 s.locs;
-      each = λ l i.
-        let e = get_or-map-range_with_len (λ l. (at l).0) 0 s.locs l l [] i (omega arith) in
-        let f = get_or-map-range_with_len (λ l. (at l).1) 0 s.locs l l [] i (omega arith) in
-        subst (λ x. IsPrinted c J l s.vars x (slice_index_or asked l [])) (sym e) (subst (IsPrinted c J l s.vars (at l).0) (sym f) (at l).2);
-    })
+    let asked = map (λ l. (at l).1) (range_with_len 0 s.locs) in (
+      printed,
+      asked,
+      record {
+        one_each = length-map-range_with_len (λ l. (at l).0) 0 s.locs;
+        one_part_each = length-map-range_with_len (λ l. (at l).1) 0 s.locs;
+        each = λ l i.
+            let e = get_or-map-range_with_len (λ l. (at l).0) 0 s.locs l l [] i (omega arith) in
+            let f = get_or-map-range_with_len (λ l. (at l).1) 0 s.locs l l [] i (omega arith) in
+            subst (λ x. IsPrinted c J l s.vars x (slice_index_or asked l [])) (sym e) (subst (IsPrinted c J l s.vars (at l).0) (sym f) (at l).2);
+      },
+    )
 
 pub printed_say_lists : PrintedSayLists
 printed_say_lists s c J printed asked l p h i = printed_says c J l p s.vars _ _ (h.each l i)
@@ -204,9 +207,9 @@ module _ (s : Graph) (cases : List (List Atom)) (c : Candidates) (J : Family) (p
     (w : IsGraph s) (kind : AreCandidates s.vars c) (g : IsGreatest s cases c J) (h : ArePrinted s c J printed asked) where
   within : IsWithin (family_of printed) J
   within l a t = elim (cases_lt l s.locs) [
-      inl i ↦ printed_there c J l s.vars _ _ (h.each l i) a (has_among _ a t)
+    | inl i ↦ printed_there c J l s.vars _ _ (h.each l i) a (has_among _ a t)
     | inr i ↦ let e : slice_index_or printed l [] ≡ [] = past_none printed l [] (let k = h.one_each in omega arith) in differ (sym (subst (λ xs. has_atom xs a ≡ true) e t))
-    ]
+  ]
 
   -- where the printed atoms are met the family is
   met : (l : ℕ) (p : Point) → l < s.locs → MeetsFamily (family_of printed) l p → MeetsFamily J l p

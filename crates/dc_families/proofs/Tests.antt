@@ -35,9 +35,9 @@ either false y e = inr e
 pub has_among : (atoms : List Atom) (a : Atom) → has_atom atoms a ≡ true → Among a atoms
 has_among [] a e = differ (sym e)
 has_among (b ∷ atoms) a e = elim (either _ _ e) [
-    inl h ↦ subst (λ x. Among a (x ∷ atoms)) (same_atom_is a b h) head
+  | inl h ↦ subst (λ x. Among a (x ∷ atoms)) (same_atom_is a b h) head
   | inr h ↦ tail (has_among atoms a h)
-  ]
+]
 
 pub among_has : (a : Atom) (atoms : List Atom) → Among a atoms → has_atom atoms a ≡ true
 among_has a [] m = elim m [ ]
@@ -56,9 +56,9 @@ pub data IsOne (n : ℕ) (c : Candidates) (a : Atom) : Type 0 where
 
 pub candidate_is : (n : ℕ) (c : Candidates) (a : Atom) → Among a (candidate_atoms n c) → IsOne n c a
 candidate_is n c a m = elim (among_cons a (never n) _ m) [
-    inl e ↦ is_never e
+  | inl e ↦ is_never e
   | inr k ↦ let f = among_flat_back (λ r. map (bounded r) c.bounds) a c.rows k in let g = mapped_among (bounded f.0) c.bounds f.2 in is_bounded f.0 g.of f.1 g.among g.is
-  ]
+]
 
 pub bounded_candidate : (n : ℕ) (c : Candidates) (r : Row) (b : ℤ) → Among r c.rows → Among b c.bounds → Among (bounded r b) (candidate_atoms n c)
 bounded_candidate n c r b m k = tail (among_flat (λ r. map (bounded r) c.bounds) r (bounded r b) c.rows m (among_map (bounded r) k))

@@ -73,16 +73,16 @@ first_least p (y ∷ bs) h x b f m t =
     by g true e f =
         let s : y ≡ x = cc in
         elim (among_cons b y bs m) [
-            inl q ↦ let q' : x ≡ b = sym s ∙ sym q in subst (λ z. x ≤ℤ z) q' (same_least x)
+          | inl q ↦ let q' : x ≡ b = sym s ∙ sym q in subst (λ z. x ≤ℤ z) q' (same_least x)
           | inr n ↦
-            let r = among_at b (pos 0) bs n in
-            let v = h 0 (suc r.0) (omega arith) (let k = r.1 in omega arith) in
-            subst (λ z. z ≤ℤ b) s (subst (λ z. y ≤ℤ z) r.2 (below_least _ _ v))
-          ]
+              let r = among_at b (pos 0) bs n in
+              let v = h 0 (suc r.0) (omega arith) (let k = r.1 in omega arith) in
+              subst (λ z. z ≤ℤ b) s (subst (λ z. y ≤ℤ z) r.2 (below_least _ _ v))
+        ]
     by g false e f = elim (among_cons b y bs m) [
-        inl q ↦ differ (sym t ∙ ap p q ∙ e)
+      | inl q ↦ differ (sym t ∙ ap p q ∙ e)
       | inr n ↦ g f n t
-      ]
+    ]
 
 some_found : (p : ℤ → Bool) (bs : List ℤ) (b : ℤ) → Among b bs → p b ≡ true → (x : ℤ) × (find p bs ≡ Some x)
 some_found p [] b m t = elim m [ ]
@@ -146,6 +146,7 @@ module _ (s : Graph) (c : Candidates) (J : Family) (l : ℕ) (p : Point) (kind :
     where
       rows : MeetsAll p (map (least_atom c J l) (kept_rows c J l))
       rows = all_atoms (MeetsAt p) _ (λ a k. let f = mapped_among (least_atom c J l) (kept_rows c J l) k in subst (MeetsAt p) (sym f.is) (m.each _ (least_is c J l f.of f.among)))
+
       by : (v : Bool) → J l (never s.vars) ≡ v → MeetsAll p (cond v (never s.vars ∷ []) (map (least_atom c J l) (kept_rows c J l)))
       by true e = (m.each (never s.vars) e, tt)
       by false e = rows

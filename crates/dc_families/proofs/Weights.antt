@@ -53,17 +53,17 @@ module _ (K J : Family) (w : IsWithin K J) (atoms : List Atom) where
       let i = held_most (K n) (J n) (w n) atoms in
       let k = weight_most n in
       elim (cases_lt l n) [
-          inl u ↦ weight_same n (omega arith) l a u m t
+        | inl u ↦ weight_same n (omega arith) l a u m t
         | inr u ↦ let s : n ≡ l = omega arith in subst (λ i. J i a ≡ true → K i a ≡ true) s (held_same (K n) (J n) (w n) atoms (omega arith) a m) t
-        ]
+      ]
 
 pub all_or_fewer : (s : Graph) (c : Candidates) (J K : Family) → HasCandidates s c J → IsWithin K J
     → IsWithin J K ⊎ (weight K (candidate_atoms s.vars c) s.locs < weight J (candidate_atoms s.vars c) s.locs)
 all_or_fewer s c J K h w =
     let atoms = candidate_atoms s.vars c in
     elim (cases_lt (weight K atoms s.locs) (weight J atoms s.locs)) [
-        inl u ↦ inr u
+      | inl u ↦ inr u
       | inr u ↦
-        let k = weight_most K J w atoms s.locs in
-        inl (λ l a t. let p = everything_is s c l a (h l a t) in weight_same K J w atoms s.locs (omega arith) l a p.0 p.1 t)
-      ]
+          let k = weight_most K J w atoms s.locs in
+          inl (λ l a t. let p = everything_is s c l a (h l a t) in weight_same K J w atoms s.locs (omega arith) l a p.0 p.1 t)
+    ]
