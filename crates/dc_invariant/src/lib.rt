@@ -6,7 +6,7 @@ mod keeping;
 pub mod laws;
 mod pruning;
 
-pub use dc_greatest::{Family, InvFault, LocFamily};
+pub use dc_greatest::{Family, InvFault, LocFamily, greatest};
 pub use dc_worklist::WorkList;
 pub use keeping::keep_proofs;
 pub use pruning::prune;
