@@ -11,4 +11,4 @@ mod shape;
 mod step;
 
 pub use families::family_failure;
-pub use step::Step;
+pub use step::{Step, failure, passes};
