@@ -1,0 +1,5 @@
+pub mod Products
+pub mod Choices
+pub mod Entailed
+pub mod DutySums
+pub mod Stronger
