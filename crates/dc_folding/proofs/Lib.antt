@@ -3,3 +3,5 @@ pub mod Choices
 pub mod Entailed
 pub mod DutySums
 pub mod Stronger
+pub mod Moved
+pub mod Induction

@@ -3,10 +3,16 @@ use Rattle.std.specs.Prelude.{◌≡◌, ℕ, List}
 use Rattle.dc_math.specs.Rational.{ℚ}
 use Rattle.dc_syntax.specs.declared.tree.Side.{Side}
 use Rattle.dc_affine.specs.declared.atom.Atom.{Atom}
+use Rattle.dc_system.specs.declared.edges.Edge.{Edge}
+use Rattle.dc_system.specs.declared.edges.System.{System}
+use Rattle.dc_system.specs.Shapes.{IsWellFormed}
 use Rattle.dc_points.specs.Points.{Point, MeetsAll}
+use Rattle.dc_families.specs.Graphs.{graph_of}
+use Rattle.dc_families.specs.Families.{Family}
+use Rattle.dc_families.specs.Rounds.{IsOver, IsInductive}
 use Rattle.dc_claims.specs.Duties.{Pair, atoms_at}
 use Rattle.dc_claims.specs.Claims.{IsCertified}
-use Rattle.dc_folding.specs.Folds.{with_atoms}
+use Rattle.dc_folding.specs.Folds.{IsFoldable, without_location, without_atoms, with_atoms}
 
 -- ---- stronger atoms
 -- at each location of both sides the other atoms entail those of the pair
@@ -17,3 +23,10 @@ AreStronger new old p = (side : Side) (l : ℕ) (x : Point)
 abbrev pub StrongerAtoms : Type 0
 StrongerAtoms = (p : Pair) (new old : List (List Atom)) (d k : ℕ) (t : ℚ)
     → AreStronger new old p → IsCertified p d k t → IsCertified (with_atoms new old p) d k t
+
+-- ---- one fold
+-- a family that is inductive stays so without the atoms of a location that is folded
+abbrev pub InductionIsKept : Type 0
+InductionIsKept = (s : System) (cases : List (List Atom)) (J : Family) (l : ℕ) (c : Edge)
+    → IsWellFormed s → IsOver s.vars J → IsFoldable s l c → IsInductive (graph_of s) cases J
+    → IsInductive (graph_of (without_location l c s)) cases (without_atoms l J)

@@ -1,7 +1,12 @@
 //! Laws of folding. Each function has no code: what it ensures is the law.
-ghost use Rattle.dc_folding.specs.Laws.{StrongerAtoms};
+ghost use Rattle.dc_folding.specs.Laws.{InductionIsKept, StrongerAtoms};
 
 /// Where other atoms entail those of each location, whatever is certified over these is certified over the others.
 pub fn stronger_atoms_certify()
     ensures { StrongerAtoms }
+{}
+
+/// A family that is inductive stays so where a location is folded and its atoms are left out.
+pub fn induction_is_kept()
+    ensures { InductionIsKept }
 {}
