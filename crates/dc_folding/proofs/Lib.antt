@@ -5,3 +5,4 @@ pub mod DutySums
 pub mod Stronger
 pub mod Moved
 pub mod Induction
+pub mod OneFold
