@@ -259,7 +259,7 @@ module _ (p : Pair) (d k : ℕ) (t : ℚ) (φ χ : Potential) (sums : (o : Duty)
     old_fold (AtEntry j) v = sums (AtEntry j) (record { there = v.there; live = v.live })
 
 pub one_fold : OneFold
-one_fold p d k New l c t w over h i (φ, χ, multipliers, m) =
-    sums_certify (pair_without New l c p) d k t φ χ (new_fold p d k t φ χ (λ o v. met_sum p d k t φ χ multipliers o (m.meets o v)) l c w over h i)
-one_fold p d k Old l c t w over h i (φ, χ, multipliers, m) =
-    sums_certify (pair_without Old l c p) d k t φ χ (old_fold p d k t φ χ (λ o v. met_sum p d k t φ χ multipliers o (m.meets o v)) l c w over h i)
+one_fold p d k New l c t s h (φ, χ, multipliers, m) =
+    sums_certify (pair_without New l c p) d k t φ χ (new_fold p d k t φ χ (λ o v. met_sum p d k t φ χ multipliers o (m.meets o v)) l c s.formed s.over h s.inductive)
+one_fold p d k Old l c t s h (φ, χ, multipliers, m) =
+    sums_certify (pair_without Old l c p) d k t φ χ (old_fold p d k t φ χ (λ o v. met_sum p d k t φ χ multipliers o (m.meets o v)) l c s.formed s.over h s.inductive)
