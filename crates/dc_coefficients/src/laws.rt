@@ -1,0 +1,13 @@
+//! Laws of monomials and entries. Each function has no code: what it ensures is the law.
+ghost use Rattle.dc_coefficients.specs.Laws.{EntriesHaveNumbers, MonosAreThose, OppositesAreEntries};
+
+/// The monomials of several polynomials are those that have a coefficient in one of them, each once, in graded order.
+pub fn monomials_are_those_with_a_coefficient()
+    ensures { MonosAreThose }
+{}
+
+/// The entries of numbers have rising rows and no zero, and give these numbers; those of opposite numbers are opposite.
+pub fn entries_have_their_numbers()
+    ensures numbers { EntriesHaveNumbers }
+    ensures opposite { OppositesAreEntries }
+{}
