@@ -123,25 +123,30 @@ fn three_lines(rt: HostRuntime) -> Result<(), Fail> {
     Ok(())
 }
 
-// A text whose inputs, or choices, are so many zeros.
-fn zeros(alloc: Global, before: &str, count: usize, behind: &str) -> Result<String, AllocError> {
+// A text with so many numbers of 14 bytes each, with the space.
+fn long_text(
+    alloc: Global,
+    before: &str,
+    count: usize,
+    behind: &str,
+) -> Result<String, AllocError> {
     let mut text = String::new(alloc);
     text.push_str(before)?;
     for _ in 0..count {
-        text.push_str(" 0")?;
+        text.push_str(" 1000000000000")?;
     }
     text.push_str(behind)?;
     Ok(text)
 }
 
-// The longest text has 5 + 1 + 8 + 4 bytes beside its 524,279 inputs of two bytes each; a choice more makes it too long.
+// The longest text has 5 + 1 + 8 + 4 bytes beside its 74,897 inputs; a choice more, ` 0`, makes it too long.
 #[test]
 fn longest_text(rt: HostRuntime) -> Result<(), Fail> {
     let alloc = rt.alloc();
-    let text = zeros(alloc, "input", 524279, "\nchoices\nend\n")?;
+    let text = long_text(alloc, "input", 74897, "\nchoices\nend\n")?;
     assert!(rt; text.len() == 1048576);
     let t = read_trace(alloc, text.as_bytes())?;
-    assert!(rt; t.input.as_slice().len() == 524279);
+    assert!(rt; t.input.as_slice().len() == 74897);
     let bytes = write_trace(alloc, &t)?;
     assert!(rt; bytes.as_slice() == text.as_bytes());
     let t = with_zero(t)?;
@@ -154,17 +159,17 @@ fn longest_text(rt: HostRuntime) -> Result<(), Fail> {
 fn too_long_texts(rt: HostRuntime) -> Result<(), Fail> {
     let alloc = rt.alloc();
     let table = [
-        ("input", 524280, "\nchoices\nend\n", 3),
-        ("input", 524286, "\nchoices\nend\n", 1),
-        ("input", 524285, "\nchoices\nend\n", 2),
-        ("input 1\nchoices", 524281, "\nend\n", 2),
-        ("input 1\nchoices", 524280, "\nend\n", 3),
-        ("inputs\nchoices", 524286, "\nend\n", 1),
-        ("input 1\nchoices\nend", 524286, "\n", 3),
-        ("input 1\nchoices\nend\n", 524286, "\n", 4),
+        ("input", 74898, "\nchoices\nend\n", 1),
+        ("input", 74897, "\nchoices 10000000000\nend\n", 2),
+        ("input", 74897, "\nchoices 10\nend\n", 3),
+        ("input 1\nchoices", 74898, "\nend\n", 2),
+        ("input 1\nchoices", 74897, "\nend\n", 3),
+        ("inputs\nchoices", 74898, "\nend\n", 1),
+        ("input 1\nchoices\nend", 74898, "\n", 3),
+        ("input 1\nchoices\nend\n", 74898, "\n", 4),
     ];
     for (before, count, behind, line) in &table {
-        let text = zeros(alloc, before, *count, behind)?;
+        let text = long_text(alloc, before, *count, behind)?;
         assert!(rt; text.len() > 1048576);
         assert!(rt; is_bad(alloc, text.as_bytes(), *line), "{before:?} {count}");
     }
