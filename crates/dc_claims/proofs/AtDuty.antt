@@ -41,7 +41,7 @@ module _ (p : Pair) (d k : ℕ) (t : ℚ) (φ χ : Potential) (multipliers : Mul
   unknown_parts o = map (λ u. multiple (unknown_value t φ χ u) (part_of p d o u)) (unknowns_of p d)
 
   abbrev pub rest_part : Duty → Multiple
-  rest_part o = multiple (of_ℤ (pos 1)) (rest_of p d o)
+  rest_part o = multiple (of_ℤ (pos 1)) (rest_of p o)
 
   abbrev pub product_parts : Duty → List Multiple
   product_parts o = map (λ i. multiple (neg_ℚ (multipliers o i)) (product_number p k o i).terms) (range_with_len 0 (length (products_at p k o)))
@@ -50,11 +50,11 @@ module _ (p : Pair) (d k : ℕ) (t : ℚ) (φ χ : Potential) (multipliers : Mul
   difference o = unknown_parts o ++ (rest_part o ∷ product_parts o)
 
   pub difference_is : (g : TermList → ℤ) (o : Duty)
-      → combination g (difference o) ≡ (total (λ u. unknown_value t φ χ u *ℚ of_ℤ (g (part_of p d o u))) (unknowns_of p d) +ℚ of_ℤ (g (rest_of p d o)))
+      → combination g (difference o) ≡ (total (λ u. unknown_value t φ χ u *ℚ of_ℤ (g (part_of p d o u))) (unknowns_of p d) +ℚ of_ℤ (g (rest_of p o)))
       -ℚ total (λ i. multipliers o i *ℚ of_ℤ (g (product_number p k o i).terms)) (range_with_len 0 (length (products_at p k o)))
   difference_is g o =
       combination-++ g (unknown_parts o) (rest_part o ∷ product_parts o)
-      ∙ ap₂ (λ x y. x +ℚ (of_ℤ (pos 1) *ℚ of_ℤ (g (rest_of p d o)) +ℚ y)) (combination-map g (unknown_value t φ χ) (part_of p d o) (unknowns_of p d))
+      ∙ ap₂ (λ x y. x +ℚ (of_ℤ (pos 1) *ℚ of_ℤ (g (rest_of p o)) +ℚ y)) (combination-map g (unknown_value t φ χ) (part_of p d o) (unknowns_of p d))
       (combination-map g (λ i. neg_ℚ (multipliers o i)) (λ i. (product_number p k o i).terms) range ∙ total_same _ _ range (λ i. turn (multipliers o i) (of_ℤ (g (product_number p k o i).terms))) ∙ total-neg (λ i. multipliers o i *ℚ of_ℤ (g (product_number p k o i).terms)) range)
       ∙ shape _ _ _
     where
@@ -71,7 +71,7 @@ module _ (p : Pair) (d k : ℕ) (t : ℚ) (φ χ : Potential) (multipliers : Mul
   pub polynomials_are : (o : Duty) → map (λ (c : Multiple). c.terms) (difference o) ≡ polynomials_at p d k o
   polynomials_are o =
       terms-++ (unknown_parts o) (rest_part o ∷ product_parts o)
-      ∙ ap₂ (λ x y. x ++ (rest_of p d o ∷ y)) (terms-map (unknown_value t φ χ) (part_of p d o) (unknowns_of p d))
+      ∙ ap₂ (λ x y. x ++ (rest_of p o ∷ y)) (terms-map (unknown_value t φ χ) (part_of p d o) (unknowns_of p d))
       (terms-map (λ i. neg_ℚ (multipliers o i)) (λ i. (product_number p k o i).terms) (range_with_len 0 (length (products_at p k o)))
       ∙ by_index (λ i. (product_number p k o i).terms) (λ (q : Polynomial). q.terms) (products_at p k o) 0 (polynomial 0 [])
       (λ i l. ap (λ j. (product_number p k o j).terms) (let e : 0 + i ≡ i = omega arith in e)))

@@ -74,10 +74,10 @@ loop_unknowns : length (unknowns_of loop_pair 1) ≡ 13
 loop_unknowns = refl
 
 -- around the loop the constant and n cancel, and i falls by 1
-turn_cost : rest_of loop_pair 1 (Along New 0) ≡ term (0 ∷ 0 ∷ 0 ∷ []) (negsuc 1) ∷ []
+turn_cost : rest_of loop_pair (Along New 0) ≡ term (0 ∷ 0 ∷ 0 ∷ []) (negsuc 1) ∷ []
 turn_cost = refl
 
-turn_cost_old : rest_of loop_pair 1 (Along Old 0) ≡ term (0 ∷ 0 ∷ 0 ∷ []) (pos 2) ∷ []
+turn_cost_old : rest_of loop_pair (Along Old 0) ≡ term (0 ∷ 0 ∷ 0 ∷ []) (pos 2) ∷ []
 turn_cost_old = refl
 
 -- at the entry i is 0

@@ -1,8 +1,8 @@
 -- What a fitting plan gives each duty: its locations are there, its atoms are over its places, and its polynomials have its places.
-use Rattle.std.specs.Prelude.{◌≡◌, ℕ, zero, suc, ◌+◌, ◌≤◌, ◌<◌, Bool, true, false, eqb, List, [], ◌∷◌, ◌++◌, take, drop, length, slice_index_or, pos}
+use Rattle.std.specs.Prelude.{◌≡◌, ℕ, zero, suc, ◌+◌, ◌≤◌, ◌<◌, Bool, true, false, eqb, List, [], ◌∷◌, ◌++◌, map, take, drop, length, slice_index_or, pos}
 use Rattle.std.specs.List.{AllByRecursion, range_with_len, list_all}
 use Rattle.std.proofs.Common.{◌∙◌, ap, subst, arith, length-append}
-use Rattle.std.proofs.lemmas.List.{length-take-le}
+use Rattle.std.proofs.lemmas.List.{length-take-le, length-map}
 use Rattle.std.proofs.lemmas.List.Elements.{All-from_recursion}
 use Rattle.dc_math.specs.Rational.{ℚ, neg_ℚ}
 use Rattle.dc_math.specs.Cones.{Each}
@@ -25,7 +25,7 @@ use Rattle.dc_claims.specs.Claims.{monomials_at}
 use Rattle.dc_claims.specs.Parts.{unknowns_at, unknowns_on, unknowns_of, when, before, behind, itself, at_inputs, monomial_at, part_of, rest_of}
 use Rattle.dc_claims.specs.Problems.{products_at, product_number}
 use Rattle.dc_claims.specs.Claims.{Potential, Multipliers}
-use Rattle.dc_claims.specs.Plans.{IsFit}
+use Rattle.dc_claims.specs.Plans.{IsPair, IsFit}
 use Rattle.dc_claims.specs.Laws.{unknown_value}
 use Rattle.dc_claims.specs.Plans.{AreAtoms, IsCase}
 use Rattle.dc_claims.proofs.Eaches.{each_all, each-++, each-map, each-flat_map, each_range}
@@ -53,42 +53,42 @@ case_in n zero (x ∷ xs) h = h.0.within
 case_in n (suc l) (x ∷ xs) h = case_in n l xs h.1
 
 -- ---- places
-Places-when : (n : ℕ) (b : Bool) (q : TermList) → Places n q → Places n (when b q)
+pub Places-when : (n : ℕ) (b : Bool) (q : TermList) → Places n q → Places n (when b q)
 Places-when n true q h = h
 Places-when n false q h = tt
 
-Places-before : (n : ℕ) (m : Exponents) → length m ≡ n → Places (n + 1) (before m)
+pub Places-before : (n : ℕ) (m : Exponents) → length m ≡ n → Places (n + 1) (before m)
 Places-before n m h = (length-append m (0 ∷ []) ∙ ap (λ i. i + 1) h, tt)
 
-Places-itself : (n : ℕ) (m : Exponents) → length m ≡ n → Places n (itself m)
+pub Places-itself : (n : ℕ) (m : Exponents) → length m ≡ n → Places n (itself m)
 Places-itself n m h = (h, tt)
 
-Places-difference : (n : ℕ) (b c : Bool) (q r : TermList) → Places n q → Places n r → Places n (plus (when b q) (negated (when c r)))
+pub Places-difference : (n : ℕ) (b c : Bool) (q r : TermList) → Places n q → Places n r → Places n (plus (when b q) (negated (when c r)))
 Places-difference n b c q r h g = Places-plus n (when b q) (negated (when c r)) (Places-when n b q h) (Places-negated n (when c r) (Places-when n c r g))
 
 all_padded : (n : ℕ) (us : List Polynomial) → AllByRecursion (IsForm n) us → AllPadded n us
 all_padded n [] h = tt
 all_padded n (u ∷ us) h = (subst (λ i. Places i u.terms) h.0.has_places h.0.kind.padded, all_padded n us h.1)
 
-Places-behind : (n : ℕ) (e : Edge) (m : Exponents) → IsEdge n e → Places (n + 1) (behind n e m)
+pub Places-behind : (n : ℕ) (e : Edge) (m : Exponents) → IsEdge n e → Places (n + 1) (behind n e m)
 Places-behind n e m h = Places-composed (n + 1) (term m (pos 1) ∷ []) e.update (all_padded (n + 1) e.update h.updates)
 
-Places-inputs : (n : ℕ) (m : Exponents) → n ≤ length m → Places n (at_inputs n m)
+pub Places-inputs : (n : ℕ) (m : Exponents) → n ≤ length m → Places n (at_inputs n m)
 Places-inputs n m h = Places-when n (list_all (eqb 0) (drop n m)) (itself (take n m)) (length-take-le n m h, tt)
 
 module _ (p : Pair) (d k : ℕ) (f : Flags) (fit : IsFit p d k f) where
-  formed : (side : Side) → IsWellFormed (system_of p side)
+  pub formed : (side : Side) → IsWellFormed (system_of p side)
   formed New = fit.pair.new.system
   formed Old = fit.pair.old.system
 
-  location_atoms : (side : Side) (l : ℕ) → AllAtoms (IsAtom (system_of p side).vars) (atoms_at p side l)
+  pub location_atoms : (side : Side) (l : ℕ) → AllAtoms (IsAtom (system_of p side).vars) (atoms_at p side l)
   location_atoms New l = atoms_in _ l p.new_atoms fit.pair.new.each
   location_atoms Old l = atoms_in _ l p.old_atoms fit.pair.old.each
 
-  is_edge : (side : Side) (n : ℕ) → n < length (system_of p side).edges → IsEdge (system_of p side).vars (edge_at (system_of p side) n)
+  pub is_edge : (side : Side) (n : ℕ) → n < length (system_of p side).edges → IsEdge (system_of p side).vars (edge_at (system_of p side) n)
   is_edge side n h = All-from_recursion _ _ (formed side).edges n no_edge h
 
-  is_within : (side : Side) (n : ℕ) → n < length (system_of p side).edges → IsWithin (system_of p side).locs (edge_at (system_of p side) n)
+  pub is_within : (side : Side) (n : ℕ) → n < length (system_of p side).edges → IsWithin (system_of p side).locs (edge_at (system_of p side) n)
   is_within side n h = All-from_recursion _ _ (formed side).ends n no_edge h
 
   pub atoms_fit : (o : Duty) → IsThere p o → AllAtoms (IsAtom (places_of p o)) (atoms_of p o)
@@ -96,12 +96,12 @@ module _ (p : Pair) (d k : ℕ) (f : Flags) (fit : IsFit p d k f) where
   atoms_fit (AtExit side) h = location_atoms side (exit_of (system_of p side))
   atoms_fit (AtEntry n) h = case_in _ n p.cases fit.pair.cases.each
 
-  few_places : (o : Duty) → places_of p o ≤ 11
+  pub few_places : (o : Duty) → places_of p o ≤ 11
   few_places (Along side n) = let h = (formed side).few_vars in omega arith
   few_places (AtExit side) = let h = (formed side).few_vars in omega arith
   few_places (AtEntry n) = let h = (formed New).few_vars in let g = (formed New).params_first in omega arith
 
-  mono_length : (side : Side) (i : ℕ) → i < length (monomials_at p d side) → length (monomial_at p d side i) ≡ (system_of p side).vars
+  pub mono_length : (side : Side) (i : ℕ) → i < length (monomials_at p d side) → length (monomial_at p d side i) ≡ (system_of p side).vars
   mono_length side i h = ((are_monomials (system_of p side).vars d).only i [] h).places
 
   -- ---- the parts
@@ -134,7 +134,7 @@ module _ (p : Pair) (d k : ℕ) (f : Flags) (fit : IsFit p d k f) where
   bound_padded (AtExit side) = tt
   bound_padded (AtEntry n) = Places-constant (pos 1) p.new.params
 
-  rest_padded : (o : Duty) → IsThere p o → Places (places_of p o) (rest_of p d o)
+  rest_padded : (o : Duty) → IsThere p o → Places (places_of p o) (rest_of p o)
   rest_padded (Along New n) h = Places-negated (p.new.vars + 1) (edge_at p.new n).cost.terms (let c = (is_edge New n h).cost in subst (λ i. Places i (edge_at p.new n).cost.terms) c.has_places c.kind.padded)
   rest_padded (Along Old n) h = let c = (is_edge Old n h).cost in subst (λ i. Places i (edge_at p.old n).cost.terms) c.has_places c.kind.padded
   rest_padded (AtExit side) h = tt
@@ -164,3 +164,22 @@ module _ (p : Pair) (d k : ℕ) (f : Flags) (fit : IsFit p d k f) where
   locations_fit (Along side n) t φ χ h = let w = is_within side n h in (w.from, w.to)
   locations_fit (AtExit side) t φ χ h = let w = (formed side).some_location in omega arith
   locations_fit (AtEntry n) t φ χ h = ((let w = (formed New).some_location in omega arith), (let w = (formed Old).some_location in omega arith))
+
+-- ---- a pair fits with every flag set
+abbrev pub all_set : Pair → Flags
+all_set p = record {
+  new_edges = map (λ e. true) p.new.edges;
+  new_exit = true;
+  old_edges = map (λ e. true) p.old.edges;
+  old_exit = true;
+  cases = map (λ c. true) p.cases;
+}
+
+pub pair_fits : (p : Pair) → IsPair p → IsFit p 0 1 (all_set p)
+pair_fits p pair = record {
+  pair = pair;
+  flags = record { new = length-map p.new.edges (λ e. true); old = length-map p.old.edges (λ e. true); cases = length-map p.cases (λ c. true) };
+  degree = omega arith;
+  some_products = omega arith;
+  few_products = omega arith;
+}

@@ -73,24 +73,24 @@ module _ (p : Pair) (d k : ℕ) (f : Flags) (x : ℕ → ℚ) (t : ℚ) (φ χ :
   abbrev Holds : Equation → Type 0
   Holds q = row (entry_of p d k q) x 0 (columns_of p d k f) ≡ of_ℤ (right_of p d k q)
 
-  row_is : (q : Equation) → occurs q.duty (duties_of f) ≡ 1 → row (entry_of p d k q) x 0 (columns_of p d k f) ≡ coefficient q.duty q.mono -ℚ of_ℤ (coef (rest_of p d q.duty) q.mono)
+  row_is : (q : Equation) → occurs q.duty (duties_of f) ≡ 1 → row (entry_of p d k q) x 0 (columns_of p d k f) ≡ coefficient q.duty q.mono -ℚ of_ℤ (coef (rest_of p q.duty) q.mono)
   unfolding product_total
   row_is q h =
       columns_row x t φ χ multipliers (entry_of p d k q) (λ u. refl) p d k f split
       ∙ ap (λ z. unknown_total q +ℚ z) (total_once (share q) q.duty (duties_of f) (other_share q) h ∙ own_share q)
-      ∙ shape (unknown_total q) (product_total q.duty q.mono) (of_ℤ (coef (rest_of p d q.duty) q.mono)) (coefficient q.duty q.mono) (difference_is p d k t φ χ multipliers (λ r. coef r q.mono) q.duty)
+      ∙ shape (unknown_total q) (product_total q.duty q.mono) (of_ℤ (coef (rest_of p q.duty) q.mono)) (coefficient q.duty q.mono) (difference_is p d k t φ χ multipliers (λ r. coef r q.mono) q.duty)
     where
       shape : (u s r c : ℚ) → c ≡ (u +ℚ r) -ℚ s → u +ℚ neg_ℚ s ≡ c -ℚ r
       shape u s r c e = rw e (ring (u ∷ s ∷ r ∷ []) (λ ρ i j k. simp (i, j, k, reads) (same_form _ _ _ refl)))
 
   equation_of_zero : (q : Equation) → occurs q.duty (duties_of f) ≡ 1 → coefficient q.duty q.mono ≡ of_ℤ (pos 0) → Holds q
-  equation_of_zero q h e = row_is q h ∙ shape _ _ e ∙ sym (of_ℤ-neg_ℤ (coef (rest_of p d q.duty) q.mono))
+  equation_of_zero q h e = row_is q h ∙ shape _ _ e ∙ sym (of_ℤ-neg_ℤ (coef (rest_of p q.duty) q.mono))
     where
       shape : (c r : ℚ) → c ≡ of_ℤ (pos 0) → c -ℚ r ≡ neg_ℚ r
       shape c r e = rw e (ring (r ∷ []) (λ ρ i. simp (i, read_nat ρ, reads) (same_form _ _ _ refl)))
 
   zero_of_equation : (q : Equation) → occurs q.duty (duties_of f) ≡ 1 → Holds q → coefficient q.duty q.mono ≡ of_ℤ (pos 0)
-  zero_of_equation q h e = shape _ (of_ℤ (coef (rest_of p d q.duty) q.mono)) (sym (row_is q h) ∙ e ∙ of_ℤ-neg_ℤ (coef (rest_of p d q.duty) q.mono))
+  zero_of_equation q h e = shape _ (of_ℤ (coef (rest_of p q.duty) q.mono)) (sym (row_is q h) ∙ e ∙ of_ℤ-neg_ℤ (coef (rest_of p q.duty) q.mono))
     where
       shape : (c r : ℚ) → c -ℚ r ≡ neg_ℚ r → c ≡ of_ℤ (pos 0)
       shape c r e = linear₁ (of_ℤ (pos 1)) _ _ _ _ e (ring (c ∷ r ∷ []) (λ ρ i j. simp (i, j, read_nat ρ, reads) (same_form _ _ _ refl)))

@@ -35,13 +35,13 @@ mono_before : (m : Exponents) (x : List ℤ) → mono_value (m ++ 0 ∷ []) x �
 mono_before [] x = refl
 mono_before (e ∷ m) x = ap (λ v. power (front x) e *ℤ v) (mono_before m (others x))
 
-before_value : (m : Exponents) (x : List ℤ) → value (before m) x ≡ mono_value m x
+pub before_value : (m : Exponents) (x : List ℤ) → value (before m) x ≡ mono_value m x
 before_value m x = one_term _ ∙ mono_before m x
 
-behind_value : (n : ℕ) (e : Edge) (m : Exponents) (x : List ℤ) → value (behind n e m) x ≡ mono_value m (values e.update x)
+pub behind_value : (n : ℕ) (e : Edge) (m : Exponents) (x : List ℤ) → value (behind n e m) x ≡ mono_value m (values e.update x)
 behind_value n e m x = value-composed (n + 1) (term m (pos 1) ∷ []) e.update x ∙ one_term _
 
-itself_value : (m : Exponents) (x : List ℤ) → value (itself m) x ≡ mono_value m x
+pub itself_value : (m : Exponents) (x : List ℤ) → value (itself m) x ≡ mono_value m x
 itself_value m x = one_term _
 
 -- with all numbers 0 a monomial is 1 where it has no exponent, and else 0
@@ -77,7 +77,7 @@ value_when : (b : Bool) (q : TermList) (x : List ℤ) → value (when b q) x ≡
 value_when true q x = refl
 value_when false q x = refl
 
-inputs_value : (n : ℕ) (m : Exponents) (x : List ℤ) → length x ≡ n → value (at_inputs n m) x ≡ mono_value m x
+pub inputs_value : (n : ℕ) (m : Exponents) (x : List ℤ) → length x ≡ n → value (at_inputs n m) x ≡ mono_value m x
 inputs_value n m x l =
     value_when (list_all (eqb 0) (drop n m)) (itself (take n m)) x
     ∙ ap (λ v. cond (list_all (eqb 0) (drop n m)) v (pos 0)) (itself_value (take n m) x) ∙ inputs_mono n m x l
@@ -196,7 +196,7 @@ module _ (p : Pair) (d : ℕ) where
     AreLocations (AtExit side) = exit_of (system_of p side) < (system_of p side).locs
     AreLocations (AtEntry n) = (0 < p.new.locs) × (0 < p.old.locs)
 
-    pub left_is : (o : Duty) (x : List ℤ) → AreLocations o → length x ≡ places_of p o → total (worth o x) (unknowns_of p d) +ℚ of_ℤ (value (rest_of p d o) x) ≡ left_value p d t φ χ o x
+    pub left_is : (o : Duty) (x : List ℤ) → AreLocations o → length x ≡ places_of p o → total (worth o x) (unknowns_of p d) +ℚ of_ℤ (value (rest_of p o) x) ≡ left_value p d t φ χ o x
     left_is (Along New n) x h l =
         let e = edge_at p.new n in
         let f = two_located New φ e.from e.to before (behind p.new.vars e) x h.0 h.1

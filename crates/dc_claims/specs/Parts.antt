@@ -60,21 +60,22 @@ abbrev pub part_at_entry : Side → ℕ → ℕ → Exponents → TermList
 part_at_entry New params l m = negated (when (eqb l 0) (at_inputs params m))
 part_at_entry Old params l m = when (eqb l 0) (at_inputs params m)
 
-module _ (p : Pair) (d : ℕ) where
-  abbrev pub monomial_at : Side → ℕ → Exponents
-  monomial_at side i = slice_index_or (monomials_at p d side) i []
+-- ---- what each of them adds to the left side of a duty
+module _ (p : Pair) where
+  -- the threshold, times its value
+  abbrev pub bound_part : Duty → TermList
+  bound_part (Along side k) = []
+  bound_part (AtExit side) = []
+  bound_part (AtEntry k) = constant_of (pos 1) p.new.params
 
-  -- what an unknown adds to the left side, times its value
-  abbrev pub part_of : Duty → Unknown → TermList
-  part_of (Along side k) Bound = []
-  part_of (AtExit side) Bound = []
-  part_of (AtEntry k) Bound = constant_of (pos 1) p.new.params
-  part_of (Along side k) (Coefficient other l i) =
+  -- the coefficient of a side's potential at a location for a monomial, times its value
+  abbrev pub part_at : Duty → Side → ℕ → Exponents → TermList
+  part_at (Along side k) other l m =
       when (same_side side other)
-      (part_along side (system_of p side).vars (edge_at (system_of p side) k) l (monomial_at side i))
-  part_of (AtExit side) (Coefficient other l i) =
-      when (same_side side other) (part_at_exit side (exit_of (system_of p side)) l (monomial_at side i))
-  part_of (AtEntry k) (Coefficient other l i) = part_at_entry other p.new.params l (monomial_at other i)
+      (part_along side (system_of p side).vars (edge_at (system_of p side) k) l m)
+  part_at (AtExit side) other l m =
+      when (same_side side other) (part_at_exit side (exit_of (system_of p side)) l m)
+  part_at (AtEntry k) other l m = part_at_entry other p.new.params l m
 
   -- and what stands there without an unknown: the cost
   abbrev pub rest_of : Duty → TermList
@@ -82,3 +83,12 @@ module _ (p : Pair) (d : ℕ) where
   rest_of (Along Old k) = (edge_at p.old k).cost.terms
   rest_of (AtExit side) = []
   rest_of (AtEntry k) = []
+
+module _ (p : Pair) (d : ℕ) where
+  abbrev pub monomial_at : Side → ℕ → Exponents
+  monomial_at side i = slice_index_or (monomials_at p d side) i []
+
+  -- what an unknown adds to the left side, times its value
+  abbrev pub part_of : Duty → Unknown → TermList
+  part_of o Bound = bound_part p o
+  part_of o (Coefficient side l i) = part_at p o side l (monomial_at side i)

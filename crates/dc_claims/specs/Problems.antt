@@ -57,7 +57,7 @@ module _ (p : Pair) (d k : ℕ) where
   abbrev pub polynomials_at : Duty → List TermList
   polynomials_at o =
       map (part_of p d o) (unknowns_of p d)
-      ++ (rest_of p d o ∷ all_terms (products_at p k o))
+      ++ (rest_of p o ∷ all_terms (products_at p k o))
 
   abbrev pub equations_at : Duty → List Equation
   equations_at o = map (equation o) (monos_in (polynomials_at o))
@@ -76,7 +76,7 @@ module _ (p : Pair) (d k : ℕ) where
       if same_duty q.duty o then neg_ℤ (coef (product_number p k o i).terms q.mono) else pos 0
 
   abbrev pub right_of : Equation → ℤ
-  right_of q = neg_ℤ (coef (rest_of p d q.duty) q.mono)
+  right_of q = neg_ℤ (coef (rest_of p q.duty) q.mono)
 
   -- what is missing is 0
   abbrev pub entry_or_zero : Option Equation → Option Column → ℤ
