@@ -9,3 +9,4 @@ pub mod OneFold
 pub mod Foldings
 pub mod Numbers
 pub mod Whole
+pub mod Examples

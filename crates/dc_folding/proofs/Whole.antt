@@ -1,12 +1,11 @@
 -- All folds of both programs: over the printed atoms of the folded systems nothing is lost.
-use Rattle.std.specs.Prelude.{◌≡◌, ◌⊎◌, ℕ, ◌-◌, ◌<◌, ◌≤◌, Bool, true, false, List, [], ◌∷◌, ◌++◌, map, length, slice_index_or}
+use Rattle.std.specs.Prelude.{◌≡◌, ℕ, ◌-◌, ◌<◌, Bool, true, false, List, [], ◌∷◌, ◌++◌, length, slice_index_or}
 use Rattle.std.proofs.Common.{refl, sym, ap, ◌∙◌, subst, arith, inl, inr, append-nil}
-use Rattle.std.proofs.lemmas.Bool.{cases_lt, and_from, lt-ltb}
+use Rattle.std.proofs.lemmas.Bool.{cases_lt}
 use Rattle.dc_math.specs.Rational.{ℚ}
-use Rattle.dc_syntax.specs.declared.tree.Side.{Side}
 use Rattle.dc_syntax.specs.declared.tree.Side.TheVariants.{New, Old}
 use Rattle.dc_affine.specs.declared.atom.Atom.{Atom}
-use Rattle.dc_graph.specs.Members.{Among, head, tail}
+use Rattle.dc_graph.specs.Members.{Among, head}
 use Rattle.dc_graph.proofs.Lists.{among-left, among-right, among-++}
 use Rattle.dc_system.specs.declared.edges.Edge.{Edge}
 use Rattle.dc_system.specs.declared.edges.System.{System}
@@ -21,9 +20,9 @@ use Rattle.dc_points.specs.Points.{Point, MeetsAt, MeetsAll}
 use Rattle.dc_rows.specs.declared.kinds.Candidates.{Candidates}
 use Rattle.dc_rows.specs.Candidate.{AreCandidates}
 use Rattle.dc_families.specs.Graphs.{graph_of}
-use Rattle.dc_families.specs.Families.{Family, never, has_atom, family_of, kept_rows, least_atom}
-use Rattle.dc_families.specs.Printed.{Question, atoms_of, Pruned, done, drops, keeps, IsPrinted, ArePrinted}
-use Rattle.dc_families.specs.Rounds.{MeetsFamily, IsOver, IsInductive, IsWithin, HasCandidates}
+use Rattle.dc_families.specs.Families.{Family, never, has_atom, family_of, least_atom}
+use Rattle.dc_families.specs.Printed.{Question, Pruned, done, drops, keeps, IsPrinted, ArePrinted}
+use Rattle.dc_families.specs.Rounds.{IsOver, IsInductive, IsWithin, HasCandidates}
 use Rattle.dc_families.proofs.Fixed.{has_greatest}
 use Rattle.dc_families.proofs.Folds.{systems_are_graphs}
 use Rattle.dc_families.proofs.Greatest.{one_greatest}
@@ -32,14 +31,14 @@ use Rattle.dc_families.proofs.Prunes.{has_printed, one_printed_each, printed_say
 use Rattle.dc_families.proofs.Reached.{candidates_over}
 use Rattle.dc_families.proofs.Tests.{has_among, among_has, in_everything, everything_is}
 use Rattle.dc_families.proofs.Upward.{least_is, lists_are_families}
-use Rattle.dc_claims.specs.Duties.{Pair, atoms_at}
+use Rattle.dc_claims.specs.Duties.{Pair}
 use Rattle.dc_claims.specs.Claims.{IsCertified}
-use Rattle.dc_folding.specs.Folds.{IsFoldable, without_location, lists_without, with_atoms, HasPrintedAtoms, IsPrintedPair, IsFoldOf}
-use Rattle.dc_folding.specs.Laws.{AreStronger, AreFormed, SomeFold, OneFoldOf, FoldingLosesNothing, NeverRises, LeastNeverRises}
+use Rattle.dc_folding.specs.Folds.{IsFoldable, without_location, lists_without, HasPrintedAtoms, IsFoldOf}
+use Rattle.dc_folding.specs.Laws.{AreStronger, AreFormed, SomeFold, OneFoldOf, FoldingLosesNothing, LeastNeverRises}
 use Rattle.dc_folding.proofs.Stronger.{stronger_atoms}
 use Rattle.dc_folding.proofs.OneFold.{one_fold}
 use Rattle.dc_folding.proofs.Foldings.{Folds, folds}
-use Rattle.dc_folding.proofs.Numbers.{with_side, numbered, lists_now, below_length, now_are, stood, numbered_inductive, new_renumbered, old_renumbered}
+use Rattle.dc_folding.proofs.Numbers.{with_side, numbered, lists_now, below_length, stood, numbered_inductive, new_renumbered, old_renumbered}
 
 -- ---- printed atoms are of the family
 module _ (c : Candidates) (J : Family) (l : ℕ) where
