@@ -1,0 +1,5 @@
+pub mod Shown
+pub mod Implied
+pub mod Tested
+pub mod Inductions
+pub mod Holding
