@@ -3,3 +3,5 @@ pub mod Implied
 pub mod Tested
 pub mod Inductions
 pub mod Holding
+pub mod Fitting
+pub mod Running
