@@ -1,5 +1,5 @@
 -- A duty is met exactly where its left side is a sum of its products, at each point of its places.
-use Rattle.std.specs.Prelude.{◌≡◌, ◌⊎◌, ℕ, zero, suc, ◌+◌, ◌<◌, ◌≤◌, List, [], ◌∷◌, map, length, ℤ, pos}
+use Rattle.std.specs.Prelude.{◌≡◌, ◌⊎◌, ℕ, zero, suc, ◌+◌, ◌≤◌, List, [], ◌∷◌, map, length, ℤ, pos}
 use Rattle.std.specs.List.{range_with_len}
 use Rattle.std.proofs.Common.{refl, sym, ap, ap₂, ◌∙◌, subst, arith, inl, inr}
 use Rattle.std.proofs.lemmas.Bool.{cases_lt}
@@ -9,18 +9,16 @@ use Rattle.dc_math.specs.RationalRing.{ring, reads, read_nat, same_form}
 use Rattle.dc_math.specs.Signs.{zero_non_negative}
 use Rattle.dc_math.specs.Sums.{at}
 use Rattle.dc_math.specs.Vectors.{dot, dot-nil, dot_comm}
-use Rattle.dc_math.specs.Cones.{Each, values_at, Cone}
+use Rattle.dc_math.specs.Cones.{Each, Cone}
 use Rattle.dc_lp.specs.Tables.{made}
-use Rattle.dc_syntax.specs.declared.tree.Side.{Side}
 use Rattle.dc_affine.specs.declared.atom.Atom.{Atom}
 use Rattle.dc_handelman.specs.Choices.{choices_of}
 use Rattle.dc_handelman.specs.Products.{choice_value}
-use Rattle.dc_points.specs.Points.{IsDead}
 use Rattle.dc_families.proofs.Decisions.{decide_dead}
 use Rattle.dc_claims.specs.declared.duty.Duty.{Duty}
 use Rattle.dc_claims.specs.declared.duty.Duty.TheVariants.{Along, AtExit, AtEntry}
 use Rattle.dc_claims.specs.Duties.{Pair, system_of, atoms_of, places_of, IsThere, IsOwed}
-use Rattle.dc_claims.specs.Claims.{Potential, Multipliers, left_value, product_values, products_count, IsMet, Certifies, IsCertified}
+use Rattle.dc_claims.specs.Claims.{Potential, Multipliers, left_value, product_values, products_count, IsMet, IsCertified}
 use Rattle.dc_folding.proofs.Products.{products}
 use Rattle.dc_folding.proofs.Choices.{atom_values, product_values_are}
 use Rattle.dc_folding.proofs.Entailed.{each_made}

@@ -1,7 +1,7 @@
 -- What a list of atoms entails that isn't dead is, at each point, a sum of its atoms and of 1 with factors of at least 0.
 use Rattle.std.specs.Prelude.{◌≡◌, ℕ, zero, suc, ◌+◌, ◌<◌, ◌≤◌, max, List, [], ◌∷◌, map, length, slice_index_or, ℤ, pos}
 use Rattle.std.specs.List.{range_with_len}
-use Rattle.std.proofs.Common.{refl, sym, ap, ap₂, ◌∙◌, subst, arith}
+use Rattle.std.proofs.Common.{refl, sym, ap, ap₂, ◌∙◌, arith}
 use Rattle.dc_math.specs.WholeVectors.{dot_ℤ}
 use Rattle.dc_math.specs.Rational.{ℚ, ◌+ℚ◌, ◌-ℚ◌, ◌*ℚ◌, of_ℤ, of_ℤ-+ℤ, NonNegative, ≤ℚ-sub}
 use Rattle.dc_math.specs.RationalRing.{ring, reads, read_nat, same_form}
@@ -10,7 +10,7 @@ use Rattle.dc_math.specs.Vectors.{dot}
 use Rattle.dc_math.specs.Cones.{Each, values_at, Cone}
 use Rattle.dc_lp.specs.Tables.{made}
 use Rattle.dc_affine.specs.declared.atom.Atom.{Atom}
-use Rattle.dc_affine.specs.Atoms.{atom_value, AllAtoms}
+use Rattle.dc_affine.specs.Atoms.{atom_value}
 use Rattle.dc_points.specs.Points.{AreOver, IsDead, Entails}
 use Rattle.dc_points.specs.Stated.{atom_number, coefficient_of}
 use Rattle.dc_points.specs.Shown.{sum_at, constant_sum, ShowsAtom}

@@ -1,28 +1,26 @@
 -- An inductive family without the atoms of a folded location is inductive.
-use Rattle.std.specs.Prelude.{◌≡◌, ◌⊎◌, ℕ, ◌+◌, ◌-◌, ◌≤◌, Bool, true, false, eqb, if◌then◌else◌, List, [], ◌∷◌, ◌++◌, length, Some, ℤ, pos, ◌≤ℤ◌}
-use Rattle.std.specs.List.{AllByRecursion}
+use Rattle.std.specs.Prelude.{◌≡◌, ◌⊎◌, ℕ, ◌+◌, ◌-◌, ◌≤◌, Bool, true, false, eqb, if◌then◌else◌, List, ◌++◌, length, pos, ◌≤ℤ◌}
 use Rattle.std.proofs.Common.{refl, sym, ap, ◌∙◌, subst, arith, inl, inr}
-use Rattle.std.proofs.lemmas.Bool.{eqb-true, eqb-false, ne_eqb}
+use Rattle.std.proofs.lemmas.Bool.{eqb-false, ne_eqb}
 use Rattle.dc_affine.specs.declared.atom.Atom.{Atom}
 use Rattle.dc_graph.specs.Members.{Among}
 use Rattle.dc_system.specs.declared.edges.Edge.{Edge}
 use Rattle.dc_system.specs.declared.edges.System.{System}
 use Rattle.dc_system.specs.After.{is_affine_after, atom_after}
-use Rattle.dc_system.specs.Composed.{after, atoms_at, composed}
-use Rattle.dc_system.specs.Folded.{fold_at, folded}
+use Rattle.dc_system.specs.Composed.{after, atoms_at}
 use Rattle.dc_system.specs.Shapes.{IsEdge, IsWellFormed}
 use Rattle.dc_system.proofs.Lists.{each_among}
 use Rattle.dc_system.proofs.Crossings.{Made, made_by}
 use Rattle.dc_system.proofs.Composite.{compose_edge}
 use Rattle.dc_system.proofs.Folds.{Joined, joined_at, was, first_in, second_in, first_to, second_from, c_from, c_to}
-use Rattle.dc_points.specs.Points.{Point, left_at, MeetsAt, MeetsAll}
-use Rattle.dc_families.specs.Graphs.{Graph, graph_of, with_edges}
+use Rattle.dc_points.specs.Points.{Point, MeetsAt, MeetsAll}
+use Rattle.dc_families.specs.Graphs.{graph_of}
 use Rattle.dc_families.specs.Families.{Family}
 use Rattle.dc_families.specs.Rounds.{MeetsFamily, EdgeGives, IsGiven, IsInductive, IsOver}
 use Rattle.dc_families.proofs.Lists.{differ, all_left, all_right}
 use Rattle.dc_folding.specs.Folds.{IsFoldable, without_location, without_atoms}
 use Rattle.dc_folding.specs.Laws.{InductionIsKept}
-use Rattle.dc_folding.proofs.Moved.{moved, meets_moved, moved_meets, guard_moved, over_moved, affine_both, after_both, left_moved}
+use Rattle.dc_folding.proofs.Moved.{moved, moved_meets, guard_moved, over_moved, affine_both, after_both}
 
 -- ---- a fold of a well formed system
 module _ (s : System) (l : ℕ) (c : Edge) (w : IsWellFormed s) (h : IsFoldable s l c) where
@@ -80,10 +78,12 @@ module _ (s : System) (l : ℕ) (c : Edge) (w : IsWellFormed s) (h : IsFoldable 
   module _ (cases : List (List Atom)) (K : Family) (over : IsOver s.vars K) (inductive : IsInductive (graph_of s) cases K) where
     -- the point after the first edge meets the family at the folded location
     pub between : (p : Point) → MeetsFamily K first.from p → MeetsAll p first.guard → MeetsFamily K l (moved s.vars first p)
-    between p m g = record { each = λ a k.
-        let i = (inductive l a k).edges first first_among goes_in p m g in
-        let o : length a.coefs ≤ length first.update = (let u = over l a k in let v = first_edge.one_each in omega arith) in
-        subst (λ v. pos 0 ≤ℤ v) (sym (over_moved s.vars first p a o)) i.1 }
+    between p m g = record {
+      each = λ a k.
+          let i = (inductive l a k).edges first first_among goes_in p m g in
+          let o : length a.coefs ≤ length first.update = (let u = over l a k in let v = first_edge.one_each in omega arith) in
+          subst (λ v. pos 0 ≤ℤ v) (sym (over_moved s.vars first p a o)) i.1;
+    }
 
     -- what the second edge gives after the first, the composed edge gives
     gives : (a : Atom) → EdgeGives (graph_of s) K second a → (p : Point) → MeetsFamily K first.from p → MeetsAll p c.guard
@@ -91,9 +91,10 @@ module _ (s : System) (l : ℕ) (c : Edge) (w : IsWellFormed s) (h : IsFoldable 
     gives a e p m g =
         let n = s.vars in
         let b = between p m (first_guard p g) in
-        let i = e (moved n first p) (subst (λ k. MeetsFamily K k (moved n first p)) (sym goes_out) b) (second_guard p g) in
-        (affine_both n first second c first_edge second_edge whole_edge made a.coefs i.0,
-         subst (λ b. MeetsAt p b) (sym (after_both n first second c first_edge second_edge whole_edge made a i.0)) (moved_meets n first p (atom_after n second a) i.1))
+        let i = e (moved n first p) (subst (λ k. MeetsFamily K k (moved n first p)) (sym goes_out) b) (second_guard p g) in (
+          affine_both n first second c first_edge second_edge whole_edge made a.coefs i.0,
+          subst (λ b. MeetsAt p b) (sym (after_both n first second c first_edge second_edge whole_edge made a i.0)) (moved_meets n first p (atom_after n second a) i.1),
+        )
 
     kept : (k : ℕ) (a : Atom) → without_atoms l K k a ≡ true → (K k a ≡ true) × (k ≡ l → ⊥)
     kept k a t = by (eqb k l) refl t

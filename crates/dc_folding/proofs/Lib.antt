@@ -6,3 +6,7 @@ pub mod Stronger
 pub mod Moved
 pub mod Induction
 pub mod OneFold
+pub mod Foldings
+pub mod Numbers
+pub mod Whole
+pub mod Examples

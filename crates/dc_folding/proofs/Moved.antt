@@ -7,7 +7,7 @@ use Rattle.std.proofs.lemmas.List.{map-append, length-map}
 use Rattle.std.proofs.lemmas.Int.{ints}
 use Rattle.dc_math.specs.WholeVectors.{dot_ℤ}
 use Rattle.dc_math.specs.WholeRing.{ring, reads, read_nat, same_form}
-use Rattle.dc_poly.specs.Terms.{Exponents, TermList, value, coef, degree_of, Places, Polynomial}
+use Rattle.dc_poly.specs.Terms.{coef, degree_of, Polynomial}
 use Rattle.dc_poly.specs.Sums.{zeros, values, composed as composed_terms, places_of}
 use Rattle.dc_poly.specs.Affine.{units}
 use Rattle.dc_poly.proofs.Degrees.{AllLow, degree-composed}
@@ -15,10 +15,10 @@ use Rattle.dc_poly.proofs.Padded.{AllPadded, Places-composed}
 use Rattle.dc_poly.proofs.Unique.{values_unique}
 use Rattle.dc_poly.proofs.Values.{value-composed, Canonical-composed}
 use Rattle.dc_affine.specs.declared.atom.Atom.{Atom}
-use Rattle.dc_affine.specs.Atoms.{atom_value, AllAtoms}
+use Rattle.dc_affine.specs.Atoms.{atom_value}
 use Rattle.dc_affine.proofs.Units.{read_value, length-units}
 use Rattle.dc_system.specs.declared.edges.Edge.{Edge}
-use Rattle.dc_system.specs.Composed.{after, coef_at, atom_at, atoms_at, forms_at, composed}
+use Rattle.dc_system.specs.Composed.{after, coef_at, atom_at, atoms_at, forms_at}
 use Rattle.dc_system.specs.Edges.{chosen}
 use Rattle.dc_system.specs.After.{weighted, is_affine_after, atom_after, affine_part, affine_parts}
 use Rattle.dc_system.specs.Shapes.{IsForm, IsEdge}

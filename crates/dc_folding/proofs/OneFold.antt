@@ -1,6 +1,6 @@
 -- What is certified with a location is certified with it folded: the composed edge owes the sum of what the two edges owe, the second
 -- one after the first update.
-use Rattle.std.specs.Prelude.{◌≡◌, ◌⊎◌, ℕ, zero, suc, ◌+◌, ◌-◌, ◌<◌, ◌≤◌, true, List, [], ◌∷◌, ◌++◌, map, length, slice_index_or, ℤ, pos, ◌*ℤ◌}
+use Rattle.std.specs.Prelude.{◌≡◌, ℕ, ◌+◌, ◌-◌, ◌≤◌, List, [], ◌∷◌, ◌++◌, length, slice_index_or, ℤ, pos, ◌*ℤ◌}
 use Rattle.std.specs.List.{AllByRecursion}
 use Rattle.std.proofs.Common.{refl, sym, ap, ap₂, ◌∙◌, subst, arith, inl, inr, length-append}
 use Rattle.std.proofs.lemmas.List.{length-map, get_or-set_other}
@@ -8,16 +8,15 @@ use Rattle.std.proofs.lemmas.List.Elements.{recursion_from_All}
 use Rattle.dc_math.specs.Rational.{ℚ, ◌+ℚ◌, ◌-ℚ◌, of_ℤ, of_ℤ-+ℤ}
 use Rattle.dc_math.specs.RationalRing.{ring, reads, same_form}
 use Rattle.dc_math.specs.Vectors.{dot}
-use Rattle.dc_math.specs.Cones.{Each, each_map, each_mapped, Cone, cone_add, cone_same}
+use Rattle.dc_math.specs.Cones.{Each, each_mapped, Cone, cone_add, cone_same}
 use Rattle.dc_lp.specs.Tables.{made as row_of}
-use Rattle.dc_syntax.specs.declared.tree.Side.{Side}
 use Rattle.dc_syntax.specs.declared.tree.Side.TheVariants.{New, Old}
 use Rattle.dc_poly.specs.Terms.{Exponents, mono_value, power, value}
 use Rattle.dc_poly.specs.Sums.{values, composition_of, places_of}
 use Rattle.dc_poly.specs.Monomials.{IsWithin, monomials_of}
 use Rattle.dc_poly.proofs.Values.{value-plus, value-composed}
 use Rattle.dc_affine.specs.declared.atom.Atom.{Atom}
-use Rattle.dc_affine.specs.Atoms.{atom_value, AllAtoms}
+use Rattle.dc_affine.specs.Atoms.{atom_value}
 use Rattle.dc_graph.specs.Members.{Among}
 use Rattle.dc_system.specs.declared.edges.Edge.{Edge}
 use Rattle.dc_system.specs.declared.edges.System.{System}
@@ -29,7 +28,7 @@ use Rattle.dc_system.proofs.Folds.{was}
 use Rattle.dc_system.proofs.Points.{values-++}
 use Rattle.dc_template.specs.Templates.{mono_values, template_value}
 use Rattle.dc_template.proofs.Listed.{are_monomials}
-use Rattle.dc_points.specs.Points.{Point, MeetsAt, MeetsAll, Entails, IsDead}
+use Rattle.dc_points.specs.Points.{Point, MeetsAt, MeetsAll, IsDead}
 use Rattle.dc_families.specs.Graphs.{graph_of}
 use Rattle.dc_families.specs.Families.{family_of}
 use Rattle.dc_families.specs.Rounds.{MeetsFamily, IsOver, IsInductive}
@@ -37,16 +36,16 @@ use Rattle.dc_families.proofs.Lists.{among_at, at_among, all_atoms, each_atom, a
 use Rattle.dc_families.proofs.Tests.{has_among, among_has}
 use Rattle.dc_claims.specs.declared.duty.Duty.{Duty}
 use Rattle.dc_claims.specs.declared.duty.Duty.TheVariants.{Along, AtExit, AtEntry}
-use Rattle.dc_claims.specs.Duties.{Pair, system_of, no_edge, edge_at, atoms_of, IsOwed}
+use Rattle.dc_claims.specs.Duties.{Pair, no_edge, edge_at, IsOwed}
 use Rattle.dc_claims.specs.Claims.{Potential, potential_value, fall, price}
-use Rattle.dc_folding.specs.Folds.{IsFoldable, lists_of, lists_without, pair_without}
+use Rattle.dc_folding.specs.Folds.{IsFoldable, lists_without, pair_without}
 use Rattle.dc_folding.specs.Laws.{OneFold}
 use Rattle.dc_folding.proofs.Products.{one, products, products_after}
 use Rattle.dc_folding.proofs.Choices.{atom_values}
 use Rattle.dc_folding.proofs.Entailed.{entailed_sum}
 use Rattle.dc_folding.proofs.DutySums.{Placed, place, IsSum, IsSumAt, met_sum, sums_certify}
 use Rattle.dc_folding.proofs.Stronger.{Gives, gives_dead, stronger_sum}
-use Rattle.dc_folding.proofs.Moved.{moved, moved_meets, state_after, value_moved, update_is}
+use Rattle.dc_folding.proofs.Moved.{moved, moved_meets, value_moved, update_is}
 use Rattle.dc_folding.proofs.Induction as fold
 
 -- ---- potentials do not see the chosen value
@@ -259,7 +258,7 @@ module _ (p : Pair) (d k : ℕ) (t : ℚ) (φ χ : Potential) (sums : (o : Duty)
     old_fold (AtEntry j) v = sums (AtEntry j) (record { there = v.there; live = v.live })
 
 pub one_fold : OneFold
-one_fold p d k New l c t w over h i (φ, χ, multipliers, m) =
-    sums_certify (pair_without New l c p) d k t φ χ (new_fold p d k t φ χ (λ o v. met_sum p d k t φ χ multipliers o (m.meets o v)) l c w over h i)
-one_fold p d k Old l c t w over h i (φ, χ, multipliers, m) =
-    sums_certify (pair_without Old l c p) d k t φ χ (old_fold p d k t φ χ (λ o v. met_sum p d k t φ χ multipliers o (m.meets o v)) l c w over h i)
+one_fold p d k New l c t s h (φ, χ, multipliers, m) =
+    sums_certify (pair_without New l c p) d k t φ χ (new_fold p d k t φ χ (λ o v. met_sum p d k t φ χ multipliers o (m.meets o v)) l c s.formed s.over h s.inductive)
+one_fold p d k Old l c t s h (φ, χ, multipliers, m) =
+    sums_certify (pair_without Old l c p) d k t φ χ (old_fold p d k t φ χ (λ o v. met_sum p d k t φ χ multipliers o (m.meets o v)) l c s.formed s.over h s.inductive)

@@ -1,24 +1,23 @@
 -- What is certified over some atoms is certified over stronger ones.
-use Rattle.std.specs.Prelude.{◌≡◌, ℕ, List, [], ◌∷◌, ◌++◌, ℤ}
+use Rattle.std.specs.Prelude.{ℕ, List, [], ◌∷◌, ℤ}
 use Rattle.dc_math.specs.Rational.{ℚ}
 use Rattle.dc_math.specs.Cones.{Each, each_map, each_mapped, Cone}
 use Rattle.dc_syntax.specs.declared.tree.Side.{Side}
 use Rattle.dc_affine.specs.declared.atom.Atom.{Atom}
-use Rattle.dc_affine.specs.Atoms.{AllAtoms}
 use Rattle.dc_points.specs.Points.{Point, MeetsAt, MeetsAll, Entails, IsDead}
 use Rattle.dc_syntax.specs.declared.tree.Side.TheVariants.{New, Old}
 use Rattle.dc_system.specs.declared.edges.Edge.{Edge}
 use Rattle.dc_families.proofs.Lists.{all_left, all_right, all_both}
 use Rattle.dc_claims.specs.declared.duty.Duty.{Duty}
 use Rattle.dc_claims.specs.declared.duty.Duty.TheVariants.{Along, AtExit, AtEntry}
-use Rattle.dc_claims.specs.Duties.{Pair, system_of, atoms_at, edge_at, edge_atoms, atoms_of, places_of, IsThere, IsOwed}
-use Rattle.dc_claims.specs.Claims.{Potential, left_value}
+use Rattle.dc_claims.specs.Duties.{Pair, atoms_at, edge_at, edge_atoms, atoms_of, IsThere, IsOwed}
+use Rattle.dc_claims.specs.Claims.{Potential}
 use Rattle.dc_folding.specs.Folds.{with_atoms}
 use Rattle.dc_folding.specs.Laws.{AreStronger, StrongerAtoms}
 use Rattle.dc_folding.proofs.Products.{one, products_of_sums}
 use Rattle.dc_folding.proofs.Choices.{atom_values}
 use Rattle.dc_folding.proofs.Entailed.{entailed_sum}
-use Rattle.dc_folding.proofs.DutySums.{Placed, place, IsSum, IsSumAt, met_sum, sums_certify}
+use Rattle.dc_folding.proofs.DutySums.{place, IsSum, IsSumAt, met_sum, sums_certify}
 
 -- wherever the atoms of h hold, those of j do
 abbrev pub Gives : List Atom → List Atom → Type 0
