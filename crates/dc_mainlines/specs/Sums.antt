@@ -38,7 +38,8 @@ with_entry s (e ∷ es) i x = cond (eqb e.row i) (with_term s e.value x) (with_e
 abbrev pub with_items : Problem → ℕ → ℕ → ℕ → Option ℚ → List Item → Option ℚ
 with_items p u start i s [] = s
 with_items p u start i s (k ∷ ks) =
-    with_items p u start i (with_entry s (entries p (short_column (whole_problem p) u (start + k.index))) i (value k.value)) ks
+    with_items p u start i
+    (with_entry s (entries p (short_column (whole_problem p) u (start + k.index))) i (value k.value)) ks
 
 -- the sums of rows, each as told
 pub record AreSums (sums : List (Option Frac)) (rows : ℕ) (sum : ℕ → Option ℚ) : Type 0 where

@@ -32,7 +32,8 @@ fn range_failure(
     count: usize,
     v: &Sparse,
 ) -> Option<Step>
-    ensures { result ≡ first_failure (range_step (whole_problem p.now) unknowns vector count v.now ∷ []) }
+    ensures { result
+        ≡ first_failure (range_step (whole_problem p.now) unknowns vector count v.now ∷ []) }
 {
     failure(7, vector, Some(is_below(v, count)))
 }
@@ -83,7 +84,8 @@ fn solution_failure(
     requires lambda_range { in_range (multipliers (whole_problem p.now) unknowns) lambda.now ≡ true }
     requires small { (k : ℕ) → k < p.now.rows → IsSmall (whole_at right.now k) }
     ensures { IfOk result (λ step. step ≡ first_failure (counted clause 0 (map
-        (equation_test (whole_problem p.now) unknowns (whole_at right.now) unknown.now lambda.now) (range_with_len 0 p.now.rows)))) }
+        (equation_test (whole_problem p.now) unknowns (whole_at right.now) unknown.now lambda.now)
+        (range_with_len 0 p.now.rows)))) }
 {
     let sums = left_sums(alloc, p, unknowns, unknown, lambda)?;
     Ok(equation_failure(clause, sums.as_slice(), right))
@@ -102,7 +104,8 @@ fn dual_failure(
     requires range { in_range p.now.rows dual.now ≡ true }
     requires small { (j : ℕ) → j < columns p.now → IsSmall (whole_at costs.now j) }
     ensures { IfOk result (λ step. step ≡ first_failure (counted 10 0 (map
-        (price_test (whole_problem p.now) unknowns (whole_at costs.now) dual.now) (range_with_len 0 (unknowns + multipliers (whole_problem p.now) unknowns))))) }
+        (price_test (whole_problem p.now) unknowns (whole_at costs.now) dual.now)
+        (range_with_len 0 (unknowns + multipliers (whole_problem p.now) unknowns))))) }
 {
     let y = dense_of(alloc, dual, p.rows)?;
     Ok(price_failure(p, unknowns, costs, y.as_slice()))
@@ -114,7 +117,8 @@ fn threshold_test(p: &Problem, t: &Frac, unknown: &Sparse, dual: &Sparse) -> Opt
     requires vector { IsVector dual.now }
     requires range { in_range p.now.rows dual.now ≡ true }
     ensures { result ≡ all_of (Some (eq_ℚ (value t.now) (at unknown.now 0))
-        ∷ option_map (λ s. eq_ℚ (value t.now) s) (folded p.now.rows (whole_at p.now.b.items) (at dual.now)) ∷ []) }
+        ∷ option_map (λ s. eq_ℚ (value t.now) s)
+        (folded p.now.rows (whole_at p.now.b.items) (at dual.now)) ∷ []) }
 {
     if *t != entry(unknown.items.as_slice(), 0) {
         return Some(false);
@@ -128,7 +132,8 @@ fn refutation_test(p: &Problem, dual: &Sparse) -> Option<bool>
     requires well_formed { IsWellFormed p.now }
     requires vector { IsVector dual.now }
     requires range { in_range p.now.rows dual.now ≡ true }
-    ensures { result ≡ option_map is_positive (folded p.now.rows (whole_at p.now.b.items) (at dual.now)) }
+    ensures { result
+        ≡ option_map is_positive (folded p.now.rows (whole_at p.now.b.items) (at dual.now)) }
 {
     let right = right_sum(p, dual)?;
     Some(right.is_positive())
@@ -152,7 +157,8 @@ fn threshold_failure(
     requires unknown_range { in_range unknowns unknown.now ≡ true }
     requires lambda_range { in_range (multipliers (whole_problem p.now) unknowns) lambda.now ≡ true }
     requires dual_range { in_range p.now.rows dual.now ≡ true }
-    ensures { IfOk result (λ step. step ≡ first_failure (later_steps (whole_problem p.now) unknowns (Threshold t.now unknown.now lambda.now dual.now))) }
+    ensures { IfOk result (λ step. step ≡ first_failure (later_steps (whole_problem p.now) unknowns
+        (Threshold t.now unknown.now lambda.now dual.now))) }
 {
     if let Some(step) = sign_failure(lambda.items.as_slice()) {
         return Ok(Some(step));
@@ -177,7 +183,8 @@ fn nothing_failure(
     requires room { unknowns * 2 ≤ columns p.now }
     requires dual { IsVector dual.now }
     requires dual_range { in_range p.now.rows dual.now ≡ true }
-    ensures { IfOk result (λ step. step ≡ first_failure (later_steps (whole_problem p.now) unknowns (Nothing dual.now))) }
+    ensures { IfOk result (λ step. step ≡ first_failure (later_steps (whole_problem p.now) unknowns
+        (Nothing dual.now))) }
 {
     if let Some(step) = dual_failure(alloc, p, unknowns, &[], dual)? {
         return Ok(Some(step));
@@ -205,7 +212,8 @@ fn vacuous_failure(
     requires lambda_range { in_range (multipliers (whole_problem p.now) unknowns) lambda.now ≡ true }
     requires ray_unknown_range { in_range unknowns ray_unknown.now ≡ true }
     requires ray_lambda_range { in_range (multipliers (whole_problem p.now) unknowns) ray_lambda.now ≡ true }
-    ensures { IfOk result (λ step. step ≡ first_failure (later_steps (whole_problem p.now) unknowns (Vacuous unknown.now lambda.now ray_unknown.now ray_lambda.now))) }
+    ensures { IfOk result (λ step. step ≡ first_failure (later_steps (whole_problem p.now) unknowns
+        (Vacuous unknown.now lambda.now ray_unknown.now ray_lambda.now))) }
 {
     if let Some(step) = sign_failure(lambda.items.as_slice()) {
         return Ok(Some(step));
@@ -243,7 +251,8 @@ pub fn main_failure(
     requires well_formed { IsWellFormed p.now }
     requires room { unknowns * 2 ≤ columns p.now }
     requires body { IsBody body.now }
-    ensures { IfOk result (λ step. step ≡ first_failure (claim_steps (whole_problem p.now) unknowns body.now)) }
+    ensures { IfOk result (λ step. step
+        ≡ first_failure (claim_steps (whole_problem p.now) unknowns body.now)) }
 {
     if let Some(step) = ranges_failure(p, unknowns, body) {
         return Ok(Some(step));

@@ -64,7 +64,8 @@ fn is_solved(sums: &[Option<Frac>], right: &[i128], row: usize) -> Option<bool>
 #[tactic(auto, using(dc_clauses::proofs::Walks::numbering))]
 pub fn equation_failure(clause: u8, sums: &[Option<Frac>], right: &[i128]) -> Option<Step>
     requires small { (k : ℕ) → k < length sums.now → IsSmall (whole_at right.now k) }
-    ensures { result ≡ first_failure (counted clause 0 (map (solved sums.now (whole_at right.now)) (range_with_len 0 (length sums.now)))) }
+    ensures { result ≡ first_failure (counted clause 0 (map
+        (solved sums.now (whole_at right.now)) (range_with_len 0 (length sums.now)))) }
 {
     for row in 0..sums.len() {
         let test = is_solved(sums, right, row);
@@ -93,7 +94,8 @@ fn is_priced(p: &Problem, unknowns: usize, costs: &[i128], y: &[Frac], k: usize)
     requires room { unknowns * 2 ≤ columns p.now }
     requires below { k + unknowns < columns p.now }
     requires small { (j : ℕ) → j < columns p.now → IsSmall (whole_at costs.now j) }
-    ensures { result ≡ priced (whole_problem p.now) unknowns (whole_at costs.now) (numbers y.now) k }
+    ensures { result
+        ≡ priced (whole_problem p.now) unknowns (whole_at costs.now) (numbers y.now) k }
 {
     let column = short_column(p, unknowns, k);
     let sum = price(&p.columns[column], y)?;
@@ -111,7 +113,9 @@ pub fn price_failure(p: &Problem, unknowns: usize, costs: &[i128], y: &[Frac]) -
     requires length { length y.now ≡ p.now.rows }
     requires room { unknowns * 2 ≤ columns p.now }
     requires small { (j : ℕ) → j < columns p.now → IsSmall (whole_at costs.now j) }
-    ensures { result ≡ first_failure (counted 10 0 (map (priced (whole_problem p.now) unknowns (whole_at costs.now) (numbers y.now)) (range_with_len 0 (short_columns p.now unknowns)))) }
+    ensures { result ≡ first_failure (counted 10 0 (map
+        (priced (whole_problem p.now) unknowns (whole_at costs.now) (numbers y.now))
+        (range_with_len 0 (short_columns p.now unknowns)))) }
 {
     for k in 0..p.columns.len() - unknowns {
         let test = is_priced(p, unknowns, costs, y, k);
@@ -140,7 +144,8 @@ fn product(numbers: &[i128], items: &[Item]) -> Option<Frac>
     requires small { (k : ℕ) → k < length numbers.now → IsSmall (whole_at numbers.now k) }
     requires rising { AreItems 0 items.now }
     requires below { All (IsBelow (length numbers.now)) items.now }
-    ensures { option_map value result ≡ folded (length numbers.now) (whole_at numbers.now) (entry_of items.now) }
+    ensures { option_map value result
+        ≡ folded (length numbers.now) (whole_at numbers.now) (entry_of items.now) }
 {
     let mut sum = Frac::whole(0);
     for item in items {
@@ -154,7 +159,8 @@ pub fn right_sum(p: &Problem, dual: &Sparse) -> Option<Frac>
     requires well_formed { IsWellFormed p.now }
     requires vector { IsVector dual.now }
     requires range { in_range p.now.rows dual.now ≡ true }
-    ensures { option_map value result ≡ folded p.now.rows (whole_at p.now.b.items) (at dual.now) }
+    ensures { option_map value result
+        ≡ folded p.now.rows (whole_at p.now.b.items) (at dual.now) }
 {
     product(&p.b, dual.items.as_slice())
 }

@@ -35,7 +35,8 @@ fn with_one(sum: Option<Frac>, a: i128, x: Frac) -> Option<Frac>
 /// Adds to the sum of each row its entry of a column times a number.
 fn add_column(sums: &mut [Option<Frac>], column: &[Entry], x: Frac)
     requires { IsColumn (length sums.old) column.now }
-    ensures { AreSums sums.new (length sums.old) (λ i. with_entry (sum_at sums.old i) column.now i (value x)) }
+    ensures { AreSums sums.new (length sums.old)
+        (λ i. with_entry (sum_at sums.old i) column.now i (value x)) }
 {
     for e in column {
         sums[e.row] = with_one(sums[e.row], e.value, x);
@@ -48,7 +49,8 @@ fn add_items(sums: &mut [Option<Frac>], p: &Problem, unknowns: usize, items: &[I
     requires rows { length sums.old ≡ p.now.rows }
     requires room { unknowns * 2 ≤ columns p.now }
     requires below { All (λ k. start + k.index + unknowns < columns p.now) items.now }
-    ensures { AreSums sums.new p.now.rows (λ i. with_items p.now unknowns start i (sum_at sums.old i) items.now) }
+    ensures { AreSums sums.new p.now.rows
+        (λ i. with_items p.now unknowns start i (sum_at sums.old i) items.now) }
 {
     for item in items {
         let column = short_column(p, unknowns, start + item.index);
@@ -69,7 +71,8 @@ fn add_values(
     requires room { unknowns * 2 ≤ columns p.now }
     requires unknown_range { in_range unknowns unknown.now ≡ true }
     requires lambda_range { in_range (multipliers (whole_problem p.now) unknowns) lambda.now ≡ true }
-    ensures { AreSums sums.new p.now.rows (λ i. with_items p.now unknowns unknowns i (with_items p.now unknowns 0 i (sum_at sums.old i) unknown.now.items) lambda.now.items) }
+    ensures { AreSums sums.new p.now.rows (λ i. with_items p.now unknowns unknowns i
+        (with_items p.now unknowns 0 i (sum_at sums.old i) unknown.now.items) lambda.now.items) }
 {
     add_items(sums, p, unknowns, unknown.items.as_slice(), 0);
     add_items(sums, p, unknowns, lambda.items.as_slice(), unknowns);
@@ -89,7 +92,8 @@ pub fn left_sums(
     requires lambda { IsVector lambda.now }
     requires unknown_range { in_range unknowns unknown.now ≡ true }
     requires lambda_range { in_range (multipliers (whole_problem p.now) unknowns) lambda.now ≡ true }
-    ensures { IfOk result (λ sums. AreSums sums.items p.now.rows (left_fold (whole_problem p.now) unknowns unknown.now lambda.now)) }
+    ensures { IfOk result (λ sums. AreSums sums.items p.now.rows
+        (left_fold (whole_problem p.now) unknowns unknown.now lambda.now)) }
 {
     let mut sums = vec![in alloc; Some(Frac::whole(0)); p.rows]?;
     add_values(&mut sums, p, unknowns, unknown, lambda);
