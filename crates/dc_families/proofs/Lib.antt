@@ -1,0 +1,12 @@
+pub mod Lists
+pub mod Tests
+pub mod Greatest
+pub mod Weights
+pub mod Decided
+pub mod Decisions
+pub mod Fixed
+pub mod Upward
+pub mod False
+pub mod Folds
+pub mod Reached
+pub mod Prunes

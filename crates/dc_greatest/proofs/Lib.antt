@@ -1,0 +1,15 @@
+pub mod Shapes
+pub mod Bridges
+pub mod Unchanged
+pub mod Ends
+pub mod EdgeTaken
+pub mod EdgesSoFar
+pub mod RoundParts
+pub mod Searching
+pub mod Rows
+pub mod Asking
+pub mod Cutting
+pub mod Setting
+pub mod CasesSoFar
+pub mod Wholes
+pub mod Sizes

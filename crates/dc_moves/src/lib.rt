@@ -1,0 +1,7 @@
+//! The lists of atoms and the forms that the problems of a family are asked over.
+#![tactic(auto)]
+
+pub mod laws;
+mod lists;
+
+pub use lists::{bounded, copied, edge_places, first_numbers, with_guard};

@@ -1,0 +1,6 @@
+mod Neighbours
+mod Places
+mod Inserted
+mod Removed
+mod Numbers
+mod Views
