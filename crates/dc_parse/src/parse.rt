@@ -23,7 +23,8 @@ use dc_affine::{Atom, dnf};
 use dc_descent::{Scope, Source, first_unknown, read_condition, read_source, spelling};
 use dc_syntax::{Cond, Name, Proc, ascii_text};
 use dc_tokens::{LexFault, Token, line_col, tokens};
-use std::alloc::Global;
+use sqlite_items::Items;
+use std::alloc::{AllocError, Global};
 use thiserror::Error;
 
 /// Why a text is refused, and where: lines and columns count from 1, and want of memory stands at 0:0.
@@ -214,21 +215,36 @@ pub fn parse_proc(alloc: Global, text: &[u8]) -> Result<Proc, ParseFault>
     }
 }
 
+/// Vectors of atoms as plain lists.
+fn lists(alloc: Global, cases: Vec<Vec<Atom>>) -> Result<Items<Items<Atom>>, AllocError>
+    ensures { IfOk result (λ v. v ≡ cases_of cases.items) }
+{
+    let mut all = Items::new(alloc);
+    for case in cases {
+        all.push(Items::from_vec(case))?;
+    }
+    Ok(all)
+}
+
 /// The cases of the condition that a text says over the parameters of a procedure: 1 to 64 conjunctions of affine atoms, of which one holds exactly where the
 /// condition is true.
 ///
 /// What is wrong is judged as for [`parse_proc`]; the declared names are the parameters, and a fault of the condition stands at the first token.
-pub fn parse_when(alloc: Global, text: &[u8], p: &Proc) -> Result<Vec<Vec<Atom>>, ParseFault>
+pub fn parse_when(alloc: Global, text: &[u8], p: &Proc) -> Result<Items<Items<Atom>>, ParseFault>
     requires { IsProgram p.now }
-    ensures says { IfOk result (λ v. ConditionOutcome (params_of p.now) text.now (says (cases_of v.items))) }
-    ensures condition { IfOk result (λ v. IsCondition p.now.params (cases_of v.items)) }
+    ensures says { IfOk result (λ v. ConditionOutcome (params_of p.now) text.now (says v)) }
+    ensures condition { IfOk result (λ v. IsCondition p.now.params v) }
     ensures fault { IfErr result (λ f. IsRefusal (ConditionOutcome (params_of p.now) text.now) text.now f.line f.col f.kind) }
 {
     if text.len() > LONGEST {
         return Err(too_long());
     }
-    match read_when(alloc, text, p) {
+    let cases = match read_when(alloc, text, p) {
+        Ok(found) => found,
+        Err(fault) => return Err(told(text, fault)),
+    };
+    match lists(alloc, cases) {
         Ok(found) => Ok(found),
-        Err(fault) => Err(told(text, fault)),
+        Err(_) => Err(told(text, Fault::want())),
     }
 }

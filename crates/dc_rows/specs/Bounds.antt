@@ -1,5 +1,5 @@
 -- Candidate bounds: numbers next to those that a program and its condition mention.
-use Rattle.std.specs.Prelude.{ℕ, leb, if◌then◌else◌, List, [], ◌∷◌, ◌++◌, map, filter, flat_map, ℤ, pos, ◌+ℤ◌, ◌-ℤ◌, neg_ℤ, int_lt, unsigned_abs}
+use Rattle.std.specs.Prelude.{ℕ, Bool, leb, if◌then◌else◌, List, [], ◌∷◌, ◌++◌, map, filter, flat_map, ℤ, pos, ◌+ℤ◌, ◌-ℤ◌, neg_ℤ, int_lt, unsigned_abs}
 use Rattle.std.specs.Ordering.{int_eq}
 use Rattle.dc_affine.specs.declared.atom.Atom.{Atom}
 use Rattle.dc_system.specs.declared.edges.System.{System}
@@ -16,6 +16,9 @@ around c = (pos c -ℤ pos 1) ∷ pos c ∷ (pos c +ℤ pos 1) ∷ (pos 1 -ℤ p
 abbrev pub largest_bound : ℕ
 largest_bound = 2147483648
 
+abbrev pub is_within : ℤ → Bool
+is_within b = leb (unsigned_abs b) largest_bound
+
 -- into a rising list, unless it is there
 abbrev pub with_bound : ℤ → List ℤ → List ℤ
 with_bound b [] = b ∷ []
@@ -26,4 +29,4 @@ rising [] = []
 rising (b ∷ bs) = with_bound b (rising bs)
 
 abbrev pub candidate_bounds : System → List Atom → List ℤ
-candidate_bounds s when = rising (filter (λ b. leb (unsigned_abs b) largest_bound) (flat_map around (mentioned s when)))
+candidate_bounds s when = rising (filter is_within (flat_map around (mentioned s when)))

@@ -1,7 +1,8 @@
 -- Candidate rows: the linear forms over a program's variables that may be bounded.
-use Rattle.std.specs.Prelude.{ℕ, suc, ◌-◌, Bool, true, false, ◌&&◌, not, eqb, if◌then◌else◌, List, [], ◌∷◌, ◌++◌, map, filter, flat_map, ℤ, pos, negsuc, slice_index_or}
-use Rattle.std.specs.List.{range_with_len, list_all}
+use Rattle.std.specs.Prelude.{ℕ, ◌+◌, ◌-◌, Bool, not, eqb, if◌then◌else◌, List, [], ◌∷◌, ◌++◌, map, filter, flat_map, ℤ, pos, negsuc, slice_index_or}
+use Rattle.std.specs.List.{range_with_len, list_all, list_any}
 use Rattle.std.specs.Ordering.{int_eq}
+use Rattle.std.specs.Cmp.Lexicographic.{pointwise}
 use Rattle.dc_affine.specs.declared.atom.Atom.{Atom}
 use Rattle.dc_system.specs.declared.edges.Edge.{Edge}
 use Rattle.dc_system.specs.declared.edges.System.{System}
@@ -37,7 +38,7 @@ rows_of_two n j k =
 
 -- with each later variable in order
 abbrev pub later_rows : ℕ → ℕ → List Row
-later_rows n j = flat_map (rows_of_two n j) (range_with_len (suc j) (n - suc j))
+later_rows n j = flat_map (rows_of_two n j) (range_with_len (j + 1) (n - (j + 1)))
 
 abbrev pub pair_rows : ℕ → List Row
 pair_rows n = flat_map (later_rows n) (range_with_len 0 n)
@@ -57,24 +58,34 @@ guard_atoms es = flat_map (λ (e : Edge). e.guard) es
 abbrev pub is_nonzero : Row → Bool
 is_nonzero r = not (list_all (λ c. int_eq c (pos 0)) r)
 
--- of the condition's atoms, then of the guards' atoms; one that mentions the chosen value is skipped, and so is a row of zeros
+-- a row of zeros is skipped
+abbrev pub linear_parts : ℕ → List Atom → List Row
+linear_parts n atoms = filter is_nonzero (map (linear_part n) atoms)
+
+-- of the condition's atoms, then of the guards' atoms; one that mentions the chosen value is skipped
 abbrev pub atom_rows : System → List Atom → List Row
-atom_rows s when = filter is_nonzero (map (linear_part s.vars) (when ++ filter (is_unchosen s.vars) (guard_atoms s.edges)))
+atom_rows s when = linear_parts s.vars (when ++ filter (is_unchosen s.vars) (guard_atoms s.edges))
 
 -- ---- all of them
 abbrev pub rows_with_repeats : System → List Atom → Bool → List Row
 rows_with_repeats s when pairs = single_rows s.vars ++ ((if pairs then pair_rows s.vars else []) ++ atom_rows s when)
 
 abbrev pub same_row : Row → Row → Bool
-same_row [] [] = true
-same_row [] (d ∷ ds) = false
-same_row (c ∷ cs) [] = false
-same_row (c ∷ cs) (d ∷ ds) = int_eq c d && same_row cs ds
+same_row r q = pointwise int_eq r q
 
 -- each once, at its first place
 abbrev pub without_repeats : List Row → List Row
 without_repeats [] = []
 without_repeats (r ∷ rs) = r ∷ filter (λ q. not (same_row r q)) (without_repeats rs)
+
+-- a row after those that are there, unless it is one of them
+abbrev pub with_row : List Row → Row → List Row
+with_row out r = if list_any (same_row r) out then out else out ++ r ∷ []
+
+-- one after another
+abbrev pub with_rows : List Row → List Row → List Row
+with_rows out [] = out
+with_rows out (r ∷ rs) = with_rows (with_row out r) rs
 
 abbrev pub candidate_rows : System → List Atom → Bool → List Row
 candidate_rows s when pairs = without_repeats (rows_with_repeats s when pairs)

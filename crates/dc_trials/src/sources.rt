@@ -3,6 +3,7 @@ use dc_affine::Atom;
 use dc_parse::laws::{one_outcome, texts_say_their_trees};
 use dc_parse::{Kind, parse_proc, parse_when};
 use dc_syntax::{Expr, Stmt};
+use sqlite_items::Items;
 use std::alloc::{AllocError, Global};
 use std::test::Fail;
 
@@ -15,11 +16,11 @@ fn refusal(alloc: Global, text: &[u8]) -> Option<(u32, u32, Kind)> {
 }
 
 /// Whether a case has one atom, of this constant and these coefficients.
-fn is_one_atom(case: Option<&Vec<Atom>>, c0: i64, coefs: &[i64]) -> bool {
+fn is_one_atom(case: Option<&Items<Atom>>, c0: i64, coefs: &[i64]) -> bool {
     let Some(case) = case else {
         return false;
     };
-    match case.first() {
+    match case.get(0) {
         Some(atom) => case.len() == 1 && atom.c0 == c0 && atom.coefs.as_slice() == coefs,
         None => false,
     }
@@ -329,8 +330,8 @@ fn reads_conditions(rt: HostRuntime) -> Result<(), Fail> {
     let p = parse_proc(alloc, b"proc f(n, m) { var i; }")?;
     let cases = parse_when(alloc, b"n != 3", &p)?;
     assert_eq!(rt; cases.len(), 2);
-    assert!(rt; is_one_atom(cases.first(), 2, &[-1, 0]));
-    assert!(rt; is_one_atom(cases.last(), -4, &[1, 0]));
+    assert!(rt; is_one_atom(cases.get(0), 2, &[-1, 0]));
+    assert!(rt; is_one_atom(cases.get(1), -4, &[1, 0]));
     let most = repeated(alloc, b"n < 0", b"||n < 0", 63, b"")?;
     assert_eq!(rt; parse_when(alloc, most.as_slice(), &p)?.len(), 64);
     let more = repeated(alloc, b"n < 0", b"||n < 0", 64, b"")?;

@@ -1,0 +1,17 @@
+pub mod Claims
+pub mod Examples
+pub mod Bounds
+pub mod Totals
+pub mod Counting
+pub mod PartValues
+pub mod Eaches
+pub mod Listed
+pub mod AtDuty
+pub mod Fits
+pub mod Owed
+pub mod Rows
+pub mod Identities
+pub mod Splits
+pub mod Raised
+pub mod Costs
+pub mod Fitting

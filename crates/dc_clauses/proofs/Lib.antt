@@ -1,0 +1,9 @@
+pub mod Tests
+pub mod Items
+pub mod Walks
+pub mod Parts
+pub mod Entries
+pub mod Shaped
+pub mod Moves
+pub mod Stages
+pub mod Examples

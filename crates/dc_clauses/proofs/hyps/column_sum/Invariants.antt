@@ -1,0 +1,9 @@
+use Rattle.std.proofs.Common.{◌≡◌, Some, drop, pos}
+use Rattle.dc_math.specs.Rational.{of_ℤ}
+use Rattle.dc_frac.specs.Value.{value}
+use Rattle.dc_clauses.specs.Lines.{part}
+use Rattle.dc_clauses.proofs.Items.{items_sum}
+use Rattle.dc_clauses.proofs.hyps.column_sum.Given as goal
+
+abbrev pub invariant-loop-item : goal.invariant-loop-item
+invariant-loop-item l = items_sum (part l.places l.atom) (Some (value l.sum)) (drop l.item-index l.items) ≡ items_sum (part l.places l.atom) (Some (of_ℤ (pos 0))) l.items

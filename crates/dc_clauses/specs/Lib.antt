@@ -1,0 +1,6 @@
+pub mod Steps
+pub mod Lines
+pub mod Hyps
+pub mod Sides
+pub mod Lent
+pub mod Mains

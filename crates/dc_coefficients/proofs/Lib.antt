@@ -1,0 +1,4 @@
+pub mod Placing
+pub mod MonoLaws
+pub mod Rows
+pub mod Walks

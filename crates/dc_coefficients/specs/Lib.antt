@@ -1,0 +1,4 @@
+pub mod Monomials
+pub mod Spots
+pub mod Entries
+pub mod Laws

@@ -1,0 +1,12 @@
+pub mod Products
+pub mod Choices
+pub mod Entailed
+pub mod DutySums
+pub mod Stronger
+pub mod Moved
+pub mod Induction
+pub mod OneFold
+pub mod Foldings
+pub mod Numbers
+pub mod Whole
+pub mod Examples
