@@ -6,3 +6,4 @@ pub mod Prunings
 pub mod Kept
 pub mod Keepings
 pub mod Sessions
+pub mod Whole

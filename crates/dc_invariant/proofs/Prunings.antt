@@ -445,9 +445,9 @@ module _ (t : Pruning) where
           )
 
 -- ---- from what `prune` requires
-pub pruning_lent : (t : Pruning) (fs : List LocFamily) → t.at.now ≡ fs → IsWellFormed t.system.now → AreCandidates t.system.now.vars t.candidates.now → IsShaped t.system.now.locs t.candidates.now fs
-    → IsHonest (graph_of t.system.now) t.candidates.now (stands_for t.system.now.vars t.candidates.now fs) → IsPruning t
-pruning_lent t fs e w k s h = record {
+pub pruning_lent : (t : Pruning) (at : List LocFamily) → t.at.now ≡ at → IsWellFormed t.system.now → AreCandidates t.system.now.vars t.candidates.now → IsShaped t.system.now.locs t.candidates.now at
+    → IsHonest (graph_of t.system.now) t.candidates.now (stands_for t.system.now.vars t.candidates.now at) → IsPruning t
+pruning_lent t at e w k s h = record {
   system = w;
   kind = k;
   shape = subst (IsShaped t.system.now.locs t.candidates.now) (sym e) s;

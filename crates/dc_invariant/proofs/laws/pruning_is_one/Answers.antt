@@ -1,4 +1,5 @@
 use Rattle.dc_invariant.proofs.Sessions.{has_pruning, one_pruning}
+use Rattle.dc_invariant.proofs.Whole.{printed_are_atoms}
 use Rattle.dc_invariant.proofs.laws.pruning_is_one.Goals as goal
 
 pub returns-clause-some : goal.returns-clause-some
@@ -6,3 +7,6 @@ returns-clause-some c = has_pruning
 
 pub returns-clause-one : goal.returns-clause-one
 returns-clause-one c = one_pruning
+
+pub returns-clause-atoms : goal.returns-clause-atoms
+returns-clause-atoms c = printed_are_atoms
