@@ -1,12 +1,13 @@
 -- The pairs of the tests have the sizes that are required.
 use Rattle.std.specs.Prelude.{◌≡◌, ℕ, zero, suc, ◌+◌, ◌*◌, ◌≤◌, Bool, true, false, List, [], ◌∷◌, length, replicate, pos}
+use Rattle.std.specs.List.{AllByRecursion}
 use Rattle.std.proofs.Common.{refl, sym, ◌∙◌, ap, subst, arith}
 use Rattle.std.proofs.lemmas.List.{length-replicate}
 use Rattle.dc_affine.specs.declared.atom.Atom.{Atom}
 use Rattle.dc_affine.specs.Atoms.{IsAtom, AllAtoms}
 use Rattle.dc_system.specs.declared.edges.System.{System}
 use Rattle.dc_system.specs.Shapes.{IsWellFormed}
-use Rattle.dc_claims.specs.Plans.{IsPlan, AreCases, IsPair, IsFit}
+use Rattle.dc_claims.specs.Plans.{IsPlan, IsCase, AreCases, IsFit}
 use Rattle.dc_match_trials.specs.Systems.{idle_system, first_place}
 
 idle_formed : (n params : ℕ) → n ≤ 10 → params ≤ n → IsWellFormed (idle_system n params)
@@ -68,3 +69,33 @@ step_fits s first second case formed locs edges a b e =
       some_products = omega arith;
       few_products = omega arith;
     }
+
+-- ---- many cases without atoms
+none_each : (n count : ℕ) → AllByRecursion (IsCase n) (replicate count [])
+none_each n zero = tt
+none_each n (suc count) = (record { few = omega arith; within = tt }, none_each n count)
+
+many_cases : (n count : ℕ) (cases : List (List Atom)) → 1 ≤ count → count ≤ 64 → cases ≡ replicate count [] → AreCases n cases
+many_cases n count cases some few are =
+    let a = ap length are ∙ length-replicate count [] in
+    record { some = omega arith; few = omega arith; each = subst (AllByRecursion (IsCase n)) (sym are) (none_each n count) }
+
+pub many_fit : (s : System) (xs : List Atom) (cases : List (List Atom)) (live : List Bool) (count : ℕ)
+    → s ≡ idle_system 10 10 → xs ≡ [] → cases ≡ replicate count [] → live ≡ replicate count true → 1 ≤ count → count ≤ 64
+    → IsFit (record { new = s; new_atoms = xs ∷ []; old = s; old_atoms = xs ∷ []; cases = cases }) 3 1 (record { new_edges = []; new_exit = true; old_edges = []; old_exit = true; cases = live })
+many_fit s xs cases live count is none are all some few = record {
+  pair = record {
+    new = idle_plan 10 10 0 s xs (omega arith) (omega arith) (omega arith) (omega arith) is none;
+    old = idle_plan 10 10 0 s xs (omega arith) (omega arith) (omega arith) (omega arith) is none;
+    params = refl;
+    cases = many_cases s.params count cases some few are;
+  };
+  flags = record {
+    new = sym (ap (λ (r : System). length r.edges) is);
+    old = sym (ap (λ (r : System). length r.edges) is);
+    cases = ap length all ∙ length-replicate count true ∙ sym (ap length are ∙ length-replicate count []);
+  };
+  degree = omega arith;
+  some_products = omega arith;
+  few_products = omega arith;
+}

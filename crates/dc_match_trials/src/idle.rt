@@ -25,7 +25,7 @@ struct Shape {
     products: u8,
 }
 
-fn idle(alloc: Global, vars: usize, params: usize) -> System
+pub(crate) fn idle(alloc: Global, vars: usize, params: usize) -> System
     ensures { result ≡ idle_system vars params }
 {
     System {
