@@ -1,5 +1,5 @@
 //! What `check` answers: the first step that does not hold, or the claim.
-use crate::texts::{APART, DEAD, FOLDED, IDLE, LOCAL, NONE};
+use crate::texts::{APART, CASES, DEAD, FOLDED, IDLE, LOCAL, NONE};
 use dc_cert::Claim;
 use dc_certtext::read_cert;
 use dc_check::{CheckFault, check};
@@ -186,6 +186,59 @@ fn checks_over_the_systems_of_the_version(rt: HostRuntime) -> Result<(), Fail> {
             IDLE,
             &[(5, "when live 1:-1")],
             Answer::Rejected(2, 1),
+        ),
+    ];
+    for row in table {
+        assert_eq!(rt; outcome(alloc, &row)?, row.answer);
+    }
+    Ok(())
+}
+
+/// Each case has its line and its keeps.
+#[test]
+fn judges_each_case(rt: HostRuntime) -> Result<(), Fail> {
+    let alloc = rt.alloc();
+    let two = "n >= 0 || n == 7";
+    let table = [
+        case(EMPTY, EMPTY, two, CASES, &[], Answer::Threshold(0)),
+        case(
+            EMPTY,
+            EMPTY,
+            two,
+            CASES,
+            &[(7, "when live 1:-1")],
+            Answer::Rejected(2, 1),
+        ),
+        case(
+            EMPTY,
+            EMPTY,
+            two,
+            CASES,
+            &[(7, "when dead 0:1")],
+            Answer::Rejected(2, 1),
+        ),
+        // the atom follows from the first case by itself, and from the second by none of its atoms
+        case(
+            EMPTY,
+            EMPTY,
+            two,
+            CASES,
+            &[
+                (9, "location 0\natom 0 1"),
+                (10, "entry 0\nkeep 0:1"),
+                (11, "entry 1\nkeep"),
+            ],
+            Answer::Rejected(3, 1),
+        ),
+        // fewer cases than lines, and more
+        case(EMPTY, EMPTY, "n >= 0", CASES, &[], Answer::Rejected(2, 1)),
+        case(
+            EMPTY,
+            EMPTY,
+            "n >= 0 || n == 7 || n == 9",
+            CASES,
+            &[],
+            Answer::Rejected(2, 2),
         ),
     ];
     for row in table {

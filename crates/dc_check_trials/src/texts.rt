@@ -145,3 +145,28 @@ lambda
 dual 0:1 2:1 3:1
 end
 ";
+
+/// Two empty programs under a condition of two cases: n is 0 or more, or n is 7.
+pub const CASES: &str = "threshold 0
+whole 0
+diffcost 2
+degree 0 products 1
+cases 2
+when live 1:-1
+when live 0:-7 1:-1
+side new
+location 0
+entry 0
+entry 1
+exit live 1:-1
+side old
+location 0
+entry 0
+entry 1
+exit live 1:-1
+main
+unknown
+lambda
+dual 0:1 1:1 2:1
+end
+";
