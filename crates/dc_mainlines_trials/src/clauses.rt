@@ -110,6 +110,21 @@ fn sparse(rt: &impl Abort, alloc: Global, v: &[Frac]) -> Result<Sparse, AllocErr
     sparse_of(alloc, v)
 }
 
+// What a certificate of a threshold has of the main problem.
+fn threshold_body(t: Frac, unknown: Sparse, lambda: Sparse, dual: Sparse) -> Body
+    requires unknown { IsVector unknown }
+    requires lambda { IsVector lambda }
+    requires dual { IsVector dual }
+    ensures { IsBody result }
+{
+    Body::Threshold {
+        t,
+        unknown,
+        lambda,
+        dual,
+    }
+}
+
 #[derive(Clone, Copy)]
 struct Threshold<'a> {
     t: Frac,
@@ -127,12 +142,10 @@ fn check_thresholds(
     rows: &[Threshold],
 ) -> Result<(), AllocError> {
     for row in rows {
-        let body = Body::Threshold {
-            t: row.t,
-            unknown: sparse(rt, alloc, row.unknown)?,
-            lambda: sparse(rt, alloc, row.lambda)?,
-            dual: sparse(rt, alloc, row.dual)?,
-        };
+        let unknown = sparse(rt, alloc, row.unknown)?;
+        let lambda = sparse(rt, alloc, row.lambda)?;
+        let dual = sparse(rt, alloc, row.dual)?;
+        let body = threshold_body(row.t, unknown, lambda, dual);
         assert_eq!(rt; first(rt, alloc, p, unknowns, &body)?, row.told);
     }
     Ok(())
