@@ -1,0 +1,7 @@
+pub mod Shown
+pub mod Implied
+pub mod Tested
+pub mod Inductions
+pub mod Holding
+pub mod Fitting
+pub mod Running

@@ -1,0 +1,4 @@
+pub mod Pairs
+pub mod Systems
+pub mod Claims
+pub mod Laws
