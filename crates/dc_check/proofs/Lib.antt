@@ -5,3 +5,5 @@ pub mod Inductions
 pub mod Holding
 pub mod Fitting
 pub mod Running
+pub mod Counting
+pub mod Checked

@@ -3,5 +3,6 @@ pub mod Claims
 pub mod Parts
 pub mod Problems
 pub mod Plans
+pub mod Blocks
 pub mod Runs
 pub mod Laws

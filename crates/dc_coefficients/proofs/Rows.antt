@@ -6,8 +6,8 @@ use Rattle.std.proofs.lemmas.Int.{ints}
 use Rattle.std.proofs.lemmas.List.Sums.{sum_by-cons}
 use Rattle.dc_lp.specs.declared.Entry.{Entry}
 use Rattle.dc_lp.specs.Problems.{coefficient_in, AreEntries, weight, whole_at}
-use Rattle.dc_coefficients.specs.Entries.{entry, entry_at, entries_from, opposite}
-use Rattle.dc_coefficients.specs.Laws.{EntriesHaveNumbers, OppositesAreEntries}
+use Rattle.dc_coefficients.specs.Entries.{entry, entry_at, entries_from}
+use Rattle.dc_coefficients.specs.Laws.{EntriesHaveNumbers}
 
 pub entries_from-++ : (r : ℕ) (ys zs : List ℤ) → entries_from r (ys ++ zs) ≡ entries_from r ys ++ entries_from (r + length ys) zs
 entries_from-++ r [] zs = ap (λ k. entries_from k zs) (let e : r ≡ r + 0 = omega arith in e)
@@ -72,13 +72,3 @@ entries_have_numbers r zs = record {
   there = number_there r zs;
   before = none_before r zs;
 }
-
--- ---- opposites
-opposite_front : (r : ℕ) (z : ℤ) (es : List Entry) → map opposite (entry_at r z ++ es) ≡ entry_at r (neg_ℤ z) ++ map opposite es
-opposite_front r (pos zero) es = refl
-opposite_front r (pos (suc n)) es = refl
-opposite_front r (negsuc n) es = refl
-
-pub opposites_are_entries : OppositesAreEntries
-opposites_are_entries r [] = refl
-opposites_are_entries r (z ∷ zs) = opposite_front r z (entries_from (suc r) zs) ∙ ap (λ q. entry_at r (neg_ℤ z) ++ q) (opposites_are_entries (suc r) zs)

@@ -1,5 +1,5 @@
 -- The entries of a column that has given numbers: those that aren't 0, by their rows.
-use Rattle.std.specs.Prelude.{ℕ, zero, suc, List, [], ◌∷◌, ◌++◌, ℤ, pos, negsuc, neg_ℤ}
+use Rattle.std.specs.Prelude.{ℕ, zero, suc, List, [], ◌∷◌, ◌++◌, ℤ, pos, negsuc}
 use Rattle.dc_lp.specs.declared.Entry.{Entry}
 
 abbrev pub entry : ℕ → ℤ → Entry
@@ -15,6 +15,3 @@ entry_at r (negsuc n) = entry r (negsuc n) ∷ []
 abbrev pub entries_from : ℕ → List ℤ → List Entry
 entries_from r [] = []
 entries_from r (z ∷ zs) = entry_at r z ++ entries_from (suc r) zs
-
-abbrev pub opposite : Entry → Entry
-opposite e = entry e.row (neg_ℤ e.value)

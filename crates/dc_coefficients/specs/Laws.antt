@@ -1,10 +1,10 @@
 -- The laws of monomials and entries.
-use Rattle.std.specs.Prelude.{◌≡◌, ◌≢◌, ◌⊎◌, ℕ, ◌+◌, ◌<◌, List, [], ◌∷◌, map, length, AllPairs, Contains, ℤ, pos, neg_ℤ, sum_by, unsigned_abs}
+use Rattle.std.specs.Prelude.{◌≡◌, ◌≢◌, ◌⊎◌, ℕ, ◌+◌, ◌<◌, List, [], ◌∷◌, length, AllPairs, Contains, ℤ, pos, sum_by, unsigned_abs}
 use Rattle.std.specs.List.{AllByRecursion}
 use Rattle.dc_poly.specs.Terms.{Exponents, TermList, coef, Canonical, Before}
 use Rattle.dc_lp.specs.Problems.{coefficient_in, AreEntries, weight, whole_at}
 use Rattle.dc_coefficients.specs.Monomials.{monos_in}
-use Rattle.dc_coefficients.specs.Entries.{entries_from, opposite}
+use Rattle.dc_coefficients.specs.Entries.{entries_from}
 
 -- the monomials that have a coefficient in some of the polynomials, and no others, in graded order; that order is strict, so each
 -- stands there once
@@ -32,7 +32,3 @@ pub record AreEntriesOf (r : ℕ) (zs : List ℤ) : Type 0 where
 
 abbrev pub EntriesHaveNumbers : Type 0
 EntriesHaveNumbers = (r : ℕ) (zs : List ℤ) → AreEntriesOf r zs
-
--- the opposite entries are those of the opposite numbers
-abbrev pub OppositesAreEntries : Type 0
-OppositesAreEntries = (r : ℕ) (zs : List ℤ) → map opposite (entries_from r zs) ≡ entries_from r (map neg_ℤ zs)

@@ -1,15 +1,14 @@
 //! The entries of a column.
-ghost use Rattle.std.specs.Prelude.{◌≡◌, ◌≤◌, ◌+◌, ◌++◌, ◌^◌, ◌<◌, length, map, All, IfOk, OnOk, IsTrue, ◌↔◌, unsigned_abs};
+ghost use Rattle.std.specs.Prelude.{◌≡◌, ◌≤◌, ◌+◌, ◌++◌, ◌^◌, ◌<◌, length, map, OnOk, IsTrue, ◌↔◌};
 ghost use Rattle.std.specs.List.{AllByRecursion};
 ghost use Rattle.dc_math.specs.OrderedLists.{In, Ordered};
 ghost use Rattle.dc_poly.specs.declared.monomial.Term.{Term};
 ghost use Rattle.dc_poly.specs.Terms.{Before, coef};
-ghost use Rattle.dc_lp.specs.declared.Entry.{Entry};
-ghost use Rattle.dc_coefficients.specs.Entries.{entries_from, entry, opposite};
+ghost use Rattle.dc_coefficients.specs.Entries.{entries_from, entry};
 
 use dc_lp::Entry;
 use dc_poly::{Mono, Poly, Term};
-use std::alloc::{AllocError, Global};
+use std::alloc::AllocError;
 
 // Whether they are one monomial.
 fn is_same(left: &Mono, right: &Mono) -> bool
@@ -50,19 +49,4 @@ pub fn push_entries(
         }
     }
     Ok(())
-}
-
-/// The same rows with the opposite values.
-pub fn opposites(alloc: Global, column: &[Entry]) -> Result<Vec<Entry>, AllocError>
-    requires { All (λ (e : Entry). unsigned_abs e.value < 2 ^ 127) column.now }
-    ensures { IfOk result (λ v. v.items ≡ map opposite column.now) }
-{
-    let mut entries = Vec::new(alloc);
-    for entry in column {
-        entries.push(Entry {
-            row: entry.row,
-            value: -entry.value,
-        })?;
-    }
-    Ok(entries)
 }

@@ -27,7 +27,7 @@ use Rattle.dc_families.proofs.Lists.{differ}
 use Rattle.dc_families.proofs.Tests.{IsOne, is_never, is_bounded, candidate_is, everything_is}
 
 -- ---- atoms that mention no more places than there are
-pub dot-more : (n : ℕ) (cs x y : List ℤ) → length cs ≤ n → n ≤ length x → dot_ℤ cs (x ++ y) ≡ dot_ℤ cs x
+dot-more : (n : ℕ) (cs x y : List ℤ) → length cs ≤ n → n ≤ length x → dot_ℤ cs (x ++ y) ≡ dot_ℤ cs x
 dot-more n [] x y l m = refl
 dot-more n (c ∷ cs) [] y l m = absurd (omega arith)
 dot-more zero (c ∷ cs) (x ∷ xs) y l m = absurd (omega arith)

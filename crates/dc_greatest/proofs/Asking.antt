@@ -6,6 +6,9 @@ use Rattle.dc_entail.specs.Asked.{Asked, AllDone, Refuses}
 use Rattle.dc_entail.specs.declared.answer.Place.{Place}
 use Rattle.dc_simplex.specs.Limits.{Answer}
 use Rattle.dc_entail.proofs.Refusals.{refusals_join}
+use Rattle.dc_greatest.specs.declared.family.InvFault.{InvFault}
+use Rattle.dc_greatest.specs.Answers.{IsFault}
+use Rattle.dc_greatest.proofs.Faults.{fault_from}
 use Rattle.dc_greatest.proofs.Unchanged.{both_done}
 
 -- ---- filtered lists as joined ones
@@ -74,3 +77,10 @@ module _ (g : ℕ → List Asked) where
       let rest = flat_map g (range_with_len (k + 1) (n - k - 1)) in
       subst (λ xs. Refuses budget xs place a) (sym (first_split n k h))
       ((refusals_join budget (first_asked k) (g k ++ rest) place a).1 (inr (d, (refusals_join budget (g k) rest place a).1 (inl r))))
+
+  -- of a list that is asked for so many rows
+  pub all_done : (budget n k : ℕ) (whole : List Asked) → whole ≡ first_asked n → k ≡ n → AllDone budget (first_asked k) → AllDone budget whole
+  all_done budget n k whole e s d = subst (AllDone budget) (sym e) (subst (λ j. AllDone budget (first_asked j)) s d)
+
+  pub all_refused : (budget n k : ℕ) (whole : List Asked) → whole ≡ first_asked n → k < n → AllDone budget (first_asked k) → (f : InvFault) → IsFault budget (λ asked. asked ≡ g k) f → IsFault budget (λ asked. asked ≡ whole) f
+  all_refused budget n k whole e h d = fault_from budget _ _ (λ asked q p a r. (whole, refl, subst (λ xs. Refuses budget xs p a) (sym e) (first_refused budget n k p a h d (subst (λ xs. Refuses budget xs p a) q r))))

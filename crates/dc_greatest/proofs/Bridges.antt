@@ -11,14 +11,14 @@ use Rattle.dc_graph.specs.Members.{Among, head}
 use Rattle.dc_rows.specs.declared.kinds.Candidates.{Candidates}
 use Rattle.dc_rows.specs.Rows.{Row, is_nonzero}
 use Rattle.dc_rows.specs.Candidate.{row_at, bound_at, IsRow, AreCandidates}
-use Rattle.dc_families.specs.Families.{Family, never, bounded, candidate_atoms, least_in, kept_rows, or_zero, least_atom, atoms_at, everything}
+use Rattle.dc_families.specs.Families.{Family, never, bounded, candidate_atoms, least_in, kept_rows, or_zero, least_atom, atoms_at}
 use Rattle.dc_families.specs.Graphs.{Graph}
 use Rattle.dc_families.specs.Rounds.{IsWithin, HasCandidates}
 use Rattle.dc_families.specs.Laws.{IsUpward}
 use Rattle.dc_families.proofs.Lists.{differ, at_among, among_at, same_lists, same_test}
 use Rattle.dc_families.proofs.Tests.{bounded_candidate, in_everything}
 use Rattle.dc_greatest.specs.declared.family.LocFamily.{LocFamily}
-use Rattle.dc_greatest.specs.Kept.{stands_for, with_least, least_rows, list_in, IsFrom, IsBelow, IsShaped}
+use Rattle.dc_greatest.specs.Kept.{stands_for, least_rows, list_in, IsFrom, IsBelow, IsShaped}
 use Rattle.dc_greatest.proofs.Shapes.{nowhere, atom_of, IsKept, kept_never, kept_bound, stands_is, is_stands}
 use Rattle.dc_greatest.specs.Laws.{ShapesAreFamilies, OneShape, ListsAreLeast}
 

@@ -1,5 +1,5 @@
 -- The cases of the condition one after another.
-use Rattle.std.specs.Prelude.{◌≡◌, ◌↔◌, ◌⊎◌, ℕ, zero, suc, ◌+◌, ◌<◌, ◌≤◌, Bool, true, false, if◌then◌else◌, List, [], ◌∷◌, ◌++◌, take, drop, set, length, slice_index_or}
+use Rattle.std.specs.Prelude.{◌≡◌, ◌↔◌, ℕ, zero, suc, ◌+◌, ◌<◌, ◌≤◌, Bool, true, false, if◌then◌else◌, List, [], ◌∷◌, ◌++◌, take, drop, set, length, slice_index_or}
 use Rattle.std.proofs.Common.{refl, sym, ◌∙◌, ap, subst, inl, inr, arith, append-nil, append_assoc}
 use Rattle.std.proofs.lemmas.Bool.{cases_eq}
 use Rattle.std.proofs.lemmas.List.{take_all}
@@ -37,7 +37,7 @@ take_next [] k d l = absurd (omega arith)
 take_next (x ∷ xs) zero d l = refl
 take_next (x ∷ xs) (suc k) d l = ap (λ ys. x ∷ ys) (take_next xs k d (omega arith))
 
-long_flags : (live : List Bool) (cases : List (List Atom)) → AreFlags live cases → length live ≡ length cases
+pub long_flags : (live : List Bool) (cases : List (List Atom)) → AreFlags live cases → length live ≡ length cases
 long_flags [] [] h = refl
 long_flags [] (c ∷ cases) h = absurd h
 long_flags (b ∷ live) [] h = absurd h

@@ -1,13 +1,14 @@
 -- One edge in a round: where its source has false, where it is dead, and where it is live.
-use Rattle.std.specs.Prelude.{◌≡◌, ◌↔◌, ℕ, ◌<◌, Bool, true, false, if◌then◌else◌, List, [], ◌∷◌, length, slice_index_or, pos, ◌≤ℤ◌, None}
-use Rattle.std.proofs.Common.{refl, sym, ◌∙◌, subst}
+use Rattle.std.specs.Prelude.{◌≡◌, ◌↔◌, ℕ, Bool, true, false, if◌then◌else◌, List, [], ◌∷◌, map, pos, ◌≤ℤ◌}
+use Rattle.std.proofs.Common.{refl, sym, ◌∙◌, ap, subst, inl, inr}
 use Rattle.dc_syntax.specs.declared.tree.Side.{Side}
 use Rattle.dc_affine.specs.declared.atom.Atom.{Atom}
-use Rattle.dc_graph.specs.Members.{Among}
 use Rattle.dc_system.specs.declared.edges.Edge.{Edge}
 use Rattle.dc_points.specs.Points.{Point, MeetsAt, MeetsAll, Entails, IsDead}
 use Rattle.dc_points.specs.Shown.{IsFlag}
-use Rattle.dc_entail.specs.Asked.{IsDone, AllDone}
+use Rattle.dc_simplex.specs.Limits.{Answer}
+use Rattle.dc_entail.specs.Asked.{Asked, IsDone, AllDone, Refuses}
+use Rattle.dc_entail.specs.declared.answer.Place.{Place}
 use Rattle.dc_rows.specs.declared.kinds.Candidates.{Candidates}
 use Rattle.dc_rows.specs.Candidate.{AreCandidates}
 use Rattle.dc_families.specs.Graphs.{Graph}
@@ -19,9 +20,13 @@ use Rattle.dc_families.proofs.False.{left_image, image}
 use Rattle.dc_families.proofs.Upward.{never_met, lists_are_families}
 use Rattle.dc_greatest.specs.declared.family.LocFamily.{LocFamily}
 use Rattle.dc_greatest.specs.Kept.{IsFit}
-use Rattle.dc_greatest.specs.Parts.{edge_atoms, edge_empty, edge_asked}
+use Rattle.dc_greatest.specs.declared.family.InvFault.{InvFault}
+use Rattle.dc_greatest.specs.Answers.{IsFault}
+use Rattle.dc_greatest.specs.Parts.{edge_atoms, affine_rows, edge_row, edge_empty, edge_asked}
 use Rattle.dc_greatest.specs.Bounds.{IsTaken}
-use Rattle.dc_greatest.specs.Searches.{IsEdgeTaken}
+use Rattle.dc_greatest.specs.Searches.{EdgeAsks, IsEdgeTaken}
+use Rattle.dc_greatest.proofs.Ends.{has_flag}
+use Rattle.dc_greatest.proofs.Faults.{fault_from}
 
 module _ (side : Side) (s : Graph) (cases : List (List Atom)) (live : List Bool) (c : Candidates) (J : Family) (budget k : ℕ) (e : Edge) (kind : AreCandidates s.vars c) (h : HasCandidates s c J) where
   -- ---- what an edge gives, by the list of its atoms
@@ -82,3 +87,28 @@ module _ (side : Side) (s : Graph) (cases : List (List Atom)) (live : List Bool)
   pub taken_live : (old new : LocFamily) → ¬ IsDead (edge_atoms s c J e) → IsTaken (EdgeGives s J e) s.vars c old new → AllDone budget (edge_asked side s c J k e true)
       → IsEdgeTaken side s cases live c J budget k e old new
   taken_live old new l t n = record { taken = t; through = (edge_asked side s c J k e true, (true, live_flag _ l, refl), n) }
+
+  -- ---- where the source has no false
+  abbrev rows : List Asked
+  rows = map (edge_row side s c J k e) (affine_rows s c J e)
+
+  asked_live : (b : Bool) → J e.from (never s.vars) ≡ false → edge_asked side s c J k e b ≡ edge_empty side s c J k e ∷ (if b then rows else [])
+  asked_live b t = ap (λ v. if v then [] else edge_empty side s c J k e ∷ (if b then rows else [])) t
+
+  pub done_live : J e.from (never s.vars) ≡ false → IsDone budget (edge_empty side s c J k e) → AllDone budget rows → AllDone budget (edge_asked side s c J k e true)
+  done_live t d r = subst (AllDone budget) (sym (asked_live true t)) (d, r)
+
+  -- a refusal of its own problem, and of a row's
+  pub fault_empty : J e.from (never s.vars) ≡ false → (f : InvFault) → IsFault budget (λ asked. asked ≡ edge_empty side s c J k e ∷ []) f → IsFault budget (EdgeAsks side s cases live c J k e) f
+  fault_empty t f = fault_from budget _ _ (λ asked q p a r.
+      let b = has_flag (edge_atoms s c J e) in
+      (edge_asked side s c J k e b.0, (b.0, b.1, refl), subst (λ xs. Refuses budget xs p a) (sym (asked_live b.0 t)) (by p a (if b.0 then rows else []) (subst (λ xs. Refuses budget xs p a) q r)))) f
+    where
+      by : (p : Place) (a : Answer) (rest : List Asked) → Refuses budget (edge_empty side s c J k e ∷ []) p a → Refuses budget (edge_empty side s c J k e ∷ rest) p a
+      by p a rest (inl x) = inl x
+      by p a rest (inr x) = absurd x.1
+
+  pub fault_rows : J e.from (never s.vars) ≡ false → ¬ IsDead (edge_atoms s c J e) → IsDone budget (edge_empty side s c J k e) → (f : InvFault) → IsFault budget (λ asked. asked ≡ rows) f
+      → IsFault budget (EdgeAsks side s cases live c J k e) f
+  fault_rows t l d f = fault_from budget _ _ (λ asked q p a r.
+      (edge_asked side s c J k e true, (true, live_flag _ l, refl), subst (λ xs. Refuses budget xs p a) (sym (asked_live true t)) (inr (d, subst (λ xs. Refuses budget xs p a) q r)))) f

@@ -8,8 +8,13 @@ pub mod RoundParts
 pub mod Searching
 pub mod Rows
 pub mod Asking
-pub mod Cutting
 pub mod Setting
 pub mod CasesSoFar
 pub mod Wholes
 pub mod Sizes
+pub mod Sames
+pub mod Faults
+pub mod Passing
+pub mod Listing
+pub mod Fewer
+pub mod Sources

@@ -1,9 +1,8 @@
 -- The two parts of a round as one.
-use Rattle.std.specs.Prelude.{◌≡◌, ℕ, Bool, true, List, [], ◌++◌, map}
+use Rattle.std.specs.Prelude.{◌≡◌, ℕ, Bool, true, List, ◌++◌, map}
 use Rattle.std.proofs.Common.{ap, subst, inl, inr}
 use Rattle.dc_syntax.specs.declared.tree.Side.{Side}
 use Rattle.dc_affine.specs.declared.atom.Atom.{Atom}
-use Rattle.dc_graph.specs.Members.{Among}
 use Rattle.dc_simplex.specs.Limits.{Answer, Past, Out}
 use Rattle.dc_entail.specs.Asked.{Asked, AllDone, Refuses}
 use Rattle.dc_entail.specs.declared.answer.Place.{Place}

@@ -1,11 +1,10 @@
 -- One row after another: which bounds a least one lets stay, and what is left of a location.
-use Rattle.std.specs.Prelude.{◌≡◌, ◌↔◌, ℕ, suc, ◌<◌, ◌≤◌, Bool, true, false, cond, ltb, List, [], length, set, slice_index_or, ℤ, pos, ◌+ℤ◌, ◌≤ℤ◌, ◌<ℤ◌, Option, Some, None}
-use Rattle.std.proofs.Common.{refl, sym, ◌∙◌, ap, subst, inl, inr, arith}
+use Rattle.std.specs.Prelude.{◌≡◌, ◌↔◌, ℕ, suc, ◌<◌, ◌≤◌, Bool, true, false, cond, ltb, List, length, set, slice_index_or, ℤ, ◌+ℤ◌, ◌≤ℤ◌, ◌<ℤ◌, Option, Some, None}
+use Rattle.std.proofs.Common.{refl, sym, ◌∙◌, subst, inl, inr, arith}
 use Rattle.std.proofs.lemmas.Bool.{cases_lt, cases_eq, ltb-true, ltb-false}
 use Rattle.std.proofs.lemmas.Grind.{common_steps}
 use Rattle.std.proofs.lemmas.Int.{ints}
-use Rattle.std.proofs.lemmas.List.{get_or_past}
-use Rattle.dc_math.specs.Rational.{ℚ, ◌≤ℚ◌, of_ℤ}
+use Rattle.dc_math.specs.Rational.{ℚ, of_ℤ}
 use Rattle.dc_math.specs.RationalRing.{≤ℚ_trans}
 use Rattle.dc_math.specs.Signs.{of_ℤ-≤}
 use Rattle.dc_affine.specs.declared.atom.Atom.{Atom}

@@ -11,7 +11,7 @@ use Rattle.dc_graph.specs.Members.{Among, head}
 use Rattle.dc_rows.specs.declared.kinds.Candidates.{Candidates}
 use Rattle.dc_rows.specs.Rows.{Row}
 use Rattle.dc_rows.specs.Candidate.{row_at, bound_at, AreCandidates}
-use Rattle.dc_families.specs.Families.{Family, never, bounded, has_atom, everything}
+use Rattle.dc_families.specs.Families.{Family, never, bounded, has_atom}
 use Rattle.dc_families.specs.Rounds.{IsWithin, HasCandidates}
 use Rattle.dc_families.specs.Laws.{IsUpward}
 use Rattle.dc_graph.proofs.Lists.{among-left, among-right, among-++}

@@ -1,5 +1,5 @@
 -- Least bounds: what is asked of a row, and what a way leaves of a location's atoms.
-use Rattle.std.specs.Prelude.{◌≡◌, ◌↔◌, ℕ, ◌<◌, ◌≤◌, ltb, if◌then◌else◌, List, [], ◌∷◌, map, length, replicate, slice_index_or, slice_set, take, true, Option, Some, None, ℤ, ◌+ℤ◌, ◌<ℤ◌}
+use Rattle.std.specs.Prelude.{◌≡◌, ◌↔◌, ℕ, ◌<◌, ◌≤◌, ltb, if◌then◌else◌, List, [], ◌∷◌, length, replicate, slice_index_or, slice_set, true, Option, Some, None, ℤ, ◌+ℤ◌, ◌<ℤ◌}
 use Rattle.dc_math.specs.Rational.{ℚ, of_ℤ, ◌≤ℚ◌}
 use Rattle.dc_affine.specs.declared.atom.Atom.{Atom}
 use Rattle.dc_graph.specs.Members.{Among}
@@ -59,10 +59,6 @@ pub record IsRowLowered (Gives : Atom → Type 0) (c : Candidates) (r : ℕ) (ol
   pub others : (i : ℕ) → (i ≡ r → ⊥) → slice_index_or new.least i None ≡ slice_index_or old.least i None
 
 -- ---- all rows
--- the atom at the first n places
-abbrev pub cut_to : ℕ → Atom → Atom
-cut_to n a = record { c0 = a.c0; coefs = take n a.coefs }
-
 -- what a way leaves of the atoms of a location: what it had and the way gives
 pub record IsTaken (Gives : Atom → Type 0) (n : ℕ) (c : Candidates) (old new : LocFamily) : Type 0 where
   pub fit : IsFit c new

@@ -14,12 +14,13 @@ use Rattle.dc_entail.specs.Answers.{IsSolveFault}
 use Rattle.dc_entail.specs.Asked.{Asked}
 use Rattle.dc_rows.specs.Candidate.{row_at, AreCandidates}
 use Rattle.dc_families.specs.Graphs.{Graph, graph_of}
-use Rattle.dc_families.specs.Families.{Family}
+use Rattle.dc_families.specs.Families.{Family, atoms_at}
 use Rattle.dc_families.specs.Moves.{edge_places, form_after}
 use Rattle.dc_greatest.specs.declared.family.LocFamily.{LocFamily}
 use Rattle.dc_greatest.specs.declared.lent.Lent.{Lent}
 use Rattle.dc_greatest.specs.Kept.{stands_for, IsShaped}
-use Rattle.dc_greatest.specs.Bounds.{HasEnd, cut_to}
+use Rattle.dc_moves.specs.Cuts.{with_guard}
+use Rattle.dc_greatest.specs.Bounds.{HasEnd}
 use Rattle.dc_greatest.specs.Parts.{edge_atoms, affine_rows, edge_row, entry_rows}
 use Rattle.dc_greatest.specs.Searches as parts
 
@@ -82,9 +83,9 @@ abbrev pub entry_row_asked : Lent → Family → ℕ → List Atom → ℕ → L
 entry_row_asked t J k case r = parts.entry_row_asked t.side (graph t) t.cases.now t.live.now t.candidates.now J k case r
 
 -- ---- one edge
--- its atoms at its places
+-- its atoms, the guard at its places
 abbrev pub atoms_of : Lent → Family → Edge → List Atom
-atoms_of t J e = map (cut_to (edge_places t.system.now.vars e)) (edge_atoms (graph t) t.candidates.now J e)
+atoms_of t J e = with_guard (edge_places t.system.now.vars e) (atoms_at t.system.now.vars t.candidates.now J e.from) e
 
 -- the problem of a row after it
 abbrev pub row_problem : Lent → Family → Edge → ℕ → Linear ℤ

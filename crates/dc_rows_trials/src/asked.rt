@@ -1,16 +1,17 @@
 //! The candidates of a source and a condition in one case.
-ghost use Rattle.dc_affine.specs.Atoms.{AllAtoms, AllCases, IsAtom, IsFullAtom, cases_of};
+ghost use Rattle.dc_affine.specs.Atoms.{AllAtoms, AllCases, IsAtom, IsFullAtom};
 
 use dc_affine::Atom;
 use dc_parse::{parse_proc, parse_when};
 use dc_rows::{Candidates, RowFault, candidates};
 use dc_system::build;
+use sqlite_items::Items;
 use std::alloc::Global;
 use std::test::Fail;
 
 // The atoms of the first case.
-fn first(cases: &[Vec<Atom>], places: usize) -> &[Atom]
-    requires { AllCases (IsFullAtom places) (cases_of cases.now) }
+fn first(cases: &[Items<Atom>], places: usize) -> &[Atom]
+    requires { AllCases (IsFullAtom places) cases.now }
     ensures { AllAtoms (IsAtom places) result.now }
 {
     match cases {

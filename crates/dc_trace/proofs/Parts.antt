@@ -13,7 +13,7 @@ use Rattle.dc_syntax.proofs.Inductions.{Expr-induction}
 use Rattle.dc_syntax.proofs.Parts.{value-Num, value-Var, value-Neg, value-Add, value-Sub, value-Mul, truth-True, truth-False, truth-Cmp, truth-Not, truth-And, truth-Or}
 use Rattle.dc_trace.specs.Parts.{Parts, all_parts, parts_step, subexpressions, compared_step, compared_parts}
 use Rattle.dc_trace.specs.Replay.{all_fit, is_small}
-use Rattle.dc_trace.specs.Tests.{Gives}
+use Rattle.dc_trace.specs.Tests.{Gives, expr_fits, cond_fits, range_fits, Evaluates, Judges, IsWithin}
 use Rattle.dc_trace.proofs.Given.{and_true, and_false, and_assoc, gives_same, gives_none, two_made, two_left, two_right}
 
 -- ---- an expression is the first of its subexpressions
@@ -86,12 +86,6 @@ pub all_fit-append : (f : ℤ → Bool) (s : State) (xs ys : List Expr) → all_
 all_fit-append f s [] ys = refl
 all_fit-append f s (x ∷ xs) ys = ap (λ t. f (value x s) && t) (all_fit-append f s xs ys) ∙ sym (and_assoc (f (value x s)) (all_fit f s xs) (all_fit f s ys))
 
-abbrev pub expr_fits : State → Expr → Bool
-expr_fits s e = all_fit is_small s (subexpressions e)
-
-abbrev pub cond_fits : State → Cond → Bool
-cond_fits s c = all_fit is_small s (compared_parts c)
-
 two_fit : (s : State) (e a b : Expr) (v : ℤ) → subexpressions e ≡ e ∷ (subexpressions a ++ subexpressions b) → value e s ≡ v → expr_fits s e ≡ (is_small v && (expr_fits s a && expr_fits s b))
 two_fit s e a b v p q = ap (all_fit is_small s) p ∙ ap₂ ◌&&◌ (ap is_small q) (all_fit-append is_small s (subexpressions a) (subexpressions b))
 
@@ -105,9 +99,6 @@ fits-Mul : (s : State) (a b : Expr) → expr_fits s (Mul a b) ≡ (is_small (val
 fits-Mul s a b = two_fit s (Mul a b) a b (value a s *ℤ value b s) (subs-Mul a b) (value-Mul a b s)
 
 -- ---- the arms of `evaluate`: e is what is evaluated, x and y what its operands are read as
-abbrev pub Evaluates : Option ℤ → State → Expr → Type 0
-Evaluates r s e = Gives r (expr_fits s e) (value e s)
-
 pub made-Num : (s : State) (e : Expr) (n : ℕ) (z : ℤ) → e ≡ Num n → n < 2 ^ 32 → z ≡ pos n → Evaluates (Some z) s e
 made-Num s e n z i l q =
     subst (Evaluates (Some z) s) (sym i)
@@ -179,9 +170,6 @@ pub right-Mul : (s : State) (r : Option ℤ) (e a b y : Expr) → r ≡ None →
 right-Mul s = right-two ◌*ℤ◌ s Mul (fits-Mul s) (λ a b. value-Mul a b s)
 
 -- ---- the arms of `judge`
-abbrev pub Judges : Option Bool → State → Cond → Type 0
-Judges r s c = Gives r (cond_fits s c) (truth c s)
-
 pub judged-True : (s : State) (c : Cond) (t : Bool) → c ≡ True → t ≡ true → Judges (Some t) s c
 judged-True s c t i q = subst (Judges (Some t) s) (sym i) (ap (all_fit is_small s) parts-True, q ∙ sym (truth-True s))
 
@@ -251,12 +239,6 @@ pub right-Or : (s : State) (r : Option Bool) (c a b y : Cond) → r ≡ None →
 right-Or s = unjudged-right ◌||◌ s Or (or_fit s) (λ a b. truth-Or a b s)
 
 -- ---- the arms of `is_within`
-abbrev pub range_fits : State → Expr → Expr → Bool
-range_fits s a b = all_fit is_small s (subexpressions a ++ subexpressions b)
-
-abbrev pub IsWithin : Option Bool → State → Expr → ℤ → Expr → Type 0
-IsWithin r s a z b = Gives r (range_fits s a b) (int_le (value a s) z && int_le z (value b s))
-
 range_fit : (s : State) (a b : Expr) → range_fits s a b ≡ (true && (expr_fits s a && expr_fits s b))
 range_fit s a b = all_fit-append is_small s (subexpressions a) (subexpressions b)
 

@@ -1,14 +1,14 @@
 -- The replay as the code keeps it.
 use Rattle.std.specs.Prelude.{◌≡◌, ℕ, ℤ, pos, Bool, true, false, List, [], ◌∷◌, ◌++◌, Option, Some, None, Result, Ok, Err}
 use Rattle.std.specs.Borrow.{Bor}
-use Rattle.dc_syntax.specs.declared.tree.Stmt.{Stmt}
+use Rattle.dc_syntax.specs.declared.tree.Stmt.{Stmt, Stmt-F}
 use Rattle.dc_trace.specs.declared.walk.Place.{Place}
 use Rattle.dc_trace.specs.declared.walk.Walk.{Walk}
 use Rattle.dc_trace.specs.declared.walk.Halt.{Halt}
 use Rattle.dc_trace.specs.declared.walk.Halt.TheVariants as H
 use Rattle.dc_trace.specs.declared.run.TraceFault.{TraceFault}
 use Rattle.dc_trace.specs.declared.run.TraceFault.TheVariants as T
-use Rattle.dc_trace.specs.Replay.{Config, config, Turn, on, stop, no_choice, bad_choice, past, blocked}
+use Rattle.dc_trace.specs.Replay.{Config, config, is_small, turn_of, Turn, on, stop, no_choice, bad_choice, past, blocked}
 
 -- what is to be done at each place, the last one first
 abbrev pub todo_at : List (Bor (List Stmt)) → List Stmt
@@ -32,6 +32,11 @@ IsTurn t (Err H.BadChoice) y = t ≡ stop bad_choice
 IsTurn t (Err H.Past128) y = t ≡ stop past
 IsTurn t (Err H.Blocked) y = t ≡ stop blocked
 IsTurn t (Err H.NoMemory) y = Unit {0}
+
+-- a turn of the statement S, with the outermost layer L, with R behind it at its place
+abbrev pub Makes : {A : Type 0} → Stmt → Stmt-F Stmt → List Stmt → Walk → Result A Halt → Walk → Type 0
+Makes S L R w r v =
+    IsTurn (turn_of is_small S L (R ++ todo_at w.places.items) w.state.items w.cost w.choices.now) r (seen v)
 
 -- the next choice of two, 1 or 0; without one or with another number it says which
 abbrev pub IsDecided : List ℤ → Result Bool Halt → List ℤ → Type 0

@@ -1,9 +1,8 @@
 //! The value of an expression and the truth of a condition in 128 bits.
-ghost use Rattle.std.specs.Prelude.{◌≡◌, ◌++◌, int_le, ◌+ℤ◌, ◌-ℤ◌, ◌*ℤ◌, neg_ℤ, ◌&&◌, ◌||◌, pos, slice_index_or};
-ghost use Rattle.dc_syntax.specs.Value.{compared, truth, value};
-ghost use Rattle.dc_trace.specs.Parts.{compared_parts, subexpressions};
-ghost use Rattle.dc_trace.specs.Replay.{all_fit, is_small};
-ghost use Rattle.dc_trace.specs.Tests.{Gives};
+ghost use Rattle.std.specs.Prelude.{◌≡◌, ◌&&◌, ◌||◌, ◌+ℤ◌, ◌-ℤ◌, ◌*ℤ◌, int_le, neg_ℤ, pos, slice_index_or};
+ghost use Rattle.dc_syntax.specs.Value.{compared};
+ghost use Rattle.dc_trace.specs.Replay.{is_small};
+ghost use Rattle.dc_trace.specs.Tests.{Evaluates, Gives, IsWithin, Judges};
 
 use dc_syntax::{Cond, Expr, Rel};
 
@@ -54,7 +53,7 @@ fn number_at(state: &[i128], place: usize) -> i128
 
 /// The value of an expression, where the value of each subexpression has a size of at most 2^127 - 1.
 pub(crate) fn evaluate(e: &Expr, state: &[i128]) -> Option<i128>
-    ensures { Gives result (all_fit is_small state.now (subexpressions e.now)) (value e.now state.now) }
+    ensures { Evaluates result state.now e.now }
 {
     match e {
         Expr::Num(n) => Some(*n as i128),
@@ -113,7 +112,7 @@ fn either(left: bool, right: bool) -> bool
 /// The truth of a condition, where the value of each subexpression of every comparison has a size of at most
 /// 2^127 - 1.
 pub(crate) fn judge(c: &Cond, state: &[i128]) -> Option<bool>
-    ensures { Gives result (all_fit is_small state.now (compared_parts c.now)) (truth c.now state.now) }
+    ensures { Judges result state.now c.now }
 {
     match c {
         Cond::True => Some(true),
@@ -150,7 +149,7 @@ fn is_between(low: &i128, z: &i128, high: &i128) -> bool
 /// Whether a number is at least the value of one expression and at most that of another, where the value of each
 /// subexpression has a size of at most 2^127 - 1.
 pub(crate) fn is_within(a: &Expr, z: &i128, b: &Expr, state: &[i128]) -> Option<bool>
-    ensures { Gives result (all_fit is_small state.now (subexpressions a.now ++ subexpressions b.now)) (int_le (value a.now state.now) z.now && int_le z.now (value b.now state.now)) }
+    ensures { IsWithin result state.now a.now z.now b.now }
 {
     let low = evaluate(a, state)?;
     let high = evaluate(b, state)?;

@@ -5,8 +5,7 @@
 ghost use Rattle.std.specs.Prelude.{◌≡◌, ◌++◌, ◌∷◌, [], if◌then◌else◌, MatchOption, OnOk, slice_set};
 ghost use Rattle.dc_syntax.specs.declared.tree.Stmt.{Stmt as Tree, out-Stmt};
 ghost use Rattle.dc_syntax.specs.declared.tree.Stmt.TheOpen as layer;
-ghost use Rattle.dc_trace.specs.Replay.{is_small, turn_of};
-ghost use Rattle.dc_trace.specs.Places.{IsDecided, IsTaken, IsTurn, seen, todo_at};
+ghost use Rattle.dc_trace.specs.Places.{IsDecided, IsTaken, Makes, todo_at};
 
 use crate::evaluate::{evaluate, is_within, judge, sum};
 use dc_syntax::{Cond, Expr, Stmt};
@@ -124,7 +123,7 @@ impl<'a> Walk<'a> {
     }
 
     fn assign(&mut self, place: usize, e: &Expr, rest: &'a [Stmt]) -> Result<(), Halt>
-        ensures { (S : Tree) → IsTurn (turn_of is_small S (layer.Assign place e.now) (rest.now ++ todo_at self.old.places.items) self.old.state.items self.old.cost self.old.choices.now) result (seen self.new) }
+        ensures { (S : Tree) → Makes S (layer.Assign place e.now) rest.now self.old result self.new }
     {
         let Some(z) = evaluate(e, self.state.as_slice()) else {
             return Err(Halt::Past128);
@@ -135,7 +134,7 @@ impl<'a> Walk<'a> {
     }
 
     fn any_of(&mut self, place: usize, rest: &'a [Stmt]) -> Result<(), Halt>
-        ensures { (S : Tree) → IsTurn (turn_of is_small S (layer.AnyOf place) (rest.now ++ todo_at self.old.places.items) self.old.state.items self.old.cost self.old.choices.now) result (seen self.new) }
+        ensures { (S : Tree) → Makes S (layer.AnyOf place) rest.now self.old result self.new }
     {
         let Some(z) = self.choose() else {
             return Err(Halt::NoChoice);
@@ -146,7 +145,7 @@ impl<'a> Walk<'a> {
     }
 
     fn between(&mut self, place: usize, a: &Expr, b: &Expr, rest: &'a [Stmt]) -> Result<(), Halt>
-        ensures { (S : Tree) → IsTurn (turn_of is_small S (layer.Between place a.now b.now) (rest.now ++ todo_at self.old.places.items) self.old.state.items self.old.cost self.old.choices.now) result (seen self.new) }
+        ensures { (S : Tree) → Makes S (layer.Between place a.now b.now) rest.now self.old result self.new }
     {
         let Some(z) = self.choose() else {
             return Err(Halt::NoChoice);
@@ -163,7 +162,7 @@ impl<'a> Walk<'a> {
     }
 
     fn tick(&mut self, e: &Expr, rest: &'a [Stmt]) -> Result<(), Halt>
-        ensures { (S : Tree) → IsTurn (turn_of is_small S (layer.Tick e.now) (rest.now ++ todo_at self.old.places.items) self.old.state.items self.old.cost self.old.choices.now) result (seen self.new) }
+        ensures { (S : Tree) → Makes S (layer.Tick e.now) rest.now self.old result self.new }
     {
         let Some(z) = evaluate(e, self.state.as_slice()) else {
             return Err(Halt::Past128);
@@ -177,7 +176,7 @@ impl<'a> Walk<'a> {
     }
 
     fn assume(&mut self, c: &Cond, rest: &'a [Stmt]) -> Result<(), Halt>
-        ensures { (S : Tree) → IsTurn (turn_of is_small S (layer.Assume c.now) (rest.now ++ todo_at self.old.places.items) self.old.state.items self.old.cost self.old.choices.now) result (seen self.new) }
+        ensures { (S : Tree) → Makes S (layer.Assume c.now) rest.now self.old result self.new }
     {
         let Some(holds) = judge(c, self.state.as_slice()) else {
             return Err(Halt::Past128);
@@ -196,7 +195,7 @@ impl<'a> Walk<'a> {
         no: &'a [Stmt],
         rest: &'a [Stmt],
     ) -> Result<(), Halt>
-        ensures { (S : Tree) → IsTurn (turn_of is_small S (layer.If c.now yes.now no.now) (rest.now ++ todo_at self.old.places.items) self.old.state.items self.old.cost self.old.choices.now) result (seen self.new) }
+        ensures { (S : Tree) → Makes S (layer.If c.now yes.now no.now) rest.now self.old result self.new }
     {
         let Some(holds) = judge(c, self.state.as_slice()) else {
             return Err(Halt::Past128);
@@ -227,7 +226,7 @@ impl<'a> Walk<'a> {
         right: &'a [Stmt],
         rest: &'a [Stmt],
     ) -> Result<(), Halt>
-        ensures { (S : Tree) → IsTurn (turn_of is_small S (layer.IfAny left.now right.now) (rest.now ++ todo_at self.old.places.items) self.old.state.items self.old.cost self.old.choices.now) result (seen self.new) }
+        ensures { (S : Tree) → Makes S (layer.IfAny left.now right.now) rest.now self.old result self.new }
     {
         let first = self.decide()?;
         self.put(rest)?;
@@ -257,7 +256,7 @@ impl<'a> Walk<'a> {
 
     fn repeat(&mut self, c: &Cond, body: &'a [Stmt], place: &Place<'a>) -> Result<(), Halt>
         requires { place.now.all.now ≡ place.now.first.now ∷ place.now.rest.now }
-        ensures { IsTurn (turn_of is_small place.now.first.now (layer.While c.now body.now) (place.now.rest.now ++ todo_at self.old.places.items) self.old.state.items self.old.cost self.old.choices.now) result (seen self.new) }
+        ensures { Makes place.now.first.now (layer.While c.now body.now) place.now.rest.now self.old result self.new }
     {
         let Some(holds) = judge(c, self.state.as_slice()) else {
             return Err(Halt::Past128);
@@ -268,7 +267,7 @@ impl<'a> Walk<'a> {
 
     fn repeat_any(&mut self, body: &'a [Stmt], place: &Place<'a>) -> Result<(), Halt>
         requires { place.now.all.now ≡ place.now.first.now ∷ place.now.rest.now }
-        ensures { IsTurn (turn_of is_small place.now.first.now (layer.WhileAny body.now) (place.now.rest.now ++ todo_at self.old.places.items) self.old.state.items self.old.cost self.old.choices.now) result (seen self.new) }
+        ensures { Makes place.now.first.now (layer.WhileAny body.now) place.now.rest.now self.old result self.new }
     {
         let goes_on = self.decide()?;
         self.go_on(goes_on, body, place)?;
@@ -278,7 +277,7 @@ impl<'a> Walk<'a> {
     /// Makes the turn of a statement that was taken.
     pub fn turn(&mut self, place: &Place<'a>) -> Result<(), Halt>
         requires { place.now.all.now ≡ place.now.first.now ∷ place.now.rest.now }
-        ensures { IsTurn (turn_of is_small place.now.first.now (out-Stmt place.now.first.now) (place.now.rest.now ++ todo_at self.old.places.items) self.old.state.items self.old.cost self.old.choices.now) result (seen self.new) }
+        ensures { Makes place.now.first.now (out-Stmt place.now.first.now) place.now.rest.now self.old result self.new }
     {
         let rest = place.rest;
         match place.first {

@@ -2,5 +2,5 @@ mod Neighbours
 mod Places
 mod Inserted
 mod Removed
-mod Numbers
+pub mod Numbers
 mod Views

@@ -1,0 +1,4 @@
+pub mod Lists
+pub mod AtStates
+pub mod Sides
+pub mod Unknowing

@@ -1,0 +1,5 @@
+pub mod Lists
+pub mod Columns
+pub mod Weights
+pub mod Whole
+pub mod Extending
