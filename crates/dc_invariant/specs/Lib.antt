@@ -1,0 +1,6 @@
+pub mod Prunes
+pub mod Shown
+pub mod Keeps
+pub mod Lent
+pub mod Answers
+pub mod Laws
