@@ -134,5 +134,5 @@ one_made i a t u c d h k =
           (one_when i.new.params i.settings.pivots i.cases a.live c.when d.when h.when k.when)
           ∙ ap₂ (λ x y. certificate_of d.version d.body d.degree d.products d.when x y)
           (one_side i a.new a.live a.new_part c.new_side d.new_side h.new_side k.new_side)
-      (one_side i a.old a.live a.old_part c.old_side d.old_side h.old_side k.old_side),
+          (one_side i a.old a.live a.old_part c.old_side d.old_side h.old_side k.old_side),
     )

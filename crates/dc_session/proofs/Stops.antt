@@ -83,8 +83,8 @@ holds_none (s ∷ ss) h = ap (λ t. cond (is_true t) (first_failure ss) (Some s)
 module _ (new old : Proc) (cases : List (List Atom)) (c : Certificate) where
   first_same : (s t : System) (x y : Step) → IsFirst s t cases c x → IsFirst s t cases c y → x ≡ y
   first_same s t x y (inl h) (inl k) = some_same x y _ h k
-  first_same s t x y (inl h) (inr (r, k)) = absurd (some_none x _ h (holds_none _ r.families))
-  first_same s t x y (inr (r, h)) (inl k) = absurd (some_none y _ k (holds_none _ r.families))
+  first_same s t x y (inl h) (inr (r, k)) = absurd (some_none x _ h (holds_none (family_steps s t cases c) r.families))
+  first_same s t x y (inr (r, h)) (inl k) = absurd (some_none y _ k (holds_none (family_steps s t cases c) r.families))
   first_same s t x y (inr (r, h)) (inr (q, k)) = some_same x y _ h k
 
   moved : (s t y z : System) (x : Step) → s ≡ y → t ≡ z → IsFirst y z cases c x → IsFirst s t cases c x
@@ -97,8 +97,8 @@ module _ (new old : Proc) (cases : List (List Atom)) (c : Certificate) where
       first_same h.new_system h.old_system x y h.first (moved h.new_system h.old_system k.new_system k.old_system y e f k.first)
 
   no_first : (s t : System) (x : Step) → IsFirst s t cases c x → AllHold (family_steps s t cases c) → AllHold (claim_steps s t cases c) → ⊥
-  no_first s t x (inl h) f g = some_none x _ h (holds_none _ f)
-  no_first s t x (inr (r, h)) f g = some_none x _ h (holds_none _ g)
+  no_first s t x (inl h) f g = some_none x (first_failure (family_steps s t cases c)) h (holds_none (family_steps s t cases c) f)
+  no_first s t x (inr (r, h)) f g = some_none x (first_failure (claim_steps s t cases c)) h (holds_none (claim_steps s t cases c) g)
 
   pub accepts_or_fails : (k : Claim) (x : Step) → Accepts new old cases c k → FailsAt new old cases c x → ⊥
   accepts_or_fails k x h g =
