@@ -60,7 +60,7 @@ not_both {X = X} p budget k j h i =
     differ_ends e = absurd (cc)
 
 module _ (hyps : List Atom) (n budget : ℕ) where
-  line_one : (l m : Liveness) → IsLine hyps n budget l → IsLine hyps n budget m → l ≡ m
+  pub line_one : (l m : Liveness) → IsLine hyps n budget l → IsLine hyps n budget m → l ≡ m
   line_one (Dead k) (Dead j) h i = ap Dead (solution_one (empty_problem hyps n) budget k j h.vector i.vector)
   line_one (Dead k) (Live j) h i = not_both (empty_problem hyps n) budget k j h.vector i.vector
   line_one (Live k) (Dead j) h i = not_both (empty_problem hyps n) budget j k i.vector h.vector
@@ -76,7 +76,7 @@ module _ (hyps : List Atom) (n budget : ℕ) where
     keeps_one (a ∷ atoms) (k ∷ ks) (j ∷ js) h i = ap₂ ◌∷◌ (solution_one (sup_problem hyps (form a)) budget k j h.0.vector i.0.vector) (keeps_one atoms ks js h.1 i.1)
 
 module _ (s : Graph) (printed : List (List Atom)) (budget : ℕ) where
-  entry_one : (cases : List (List Atom)) (live : List Bool) (x y : List (List Sparse)) → AreEntryKeeps s printed budget cases live x → AreEntryKeeps s printed budget cases live y → x ≡ y
+  pub entry_one : (cases : List (List Atom)) (live : List Bool) (x y : List (List Sparse)) → AreEntryKeeps s printed budget cases live x → AreEntryKeeps s printed budget cases live y → x ≡ y
   entry_one [] live [] [] h i = refl
   entry_one [] live [] (k ∷ y) h i = absurd i
   entry_one [] live (k ∷ x) y h i = absurd h
@@ -92,7 +92,7 @@ module _ (s : Graph) (printed : List (List Atom)) (budget : ℕ) where
       ap₂ make (line_one (kept_atoms s printed e) (edge_places s.vars e) budget x.live y.live h.line i.line)
       (keeps_one (kept_atoms s printed e) (edge_places s.vars e) budget (λ a. form_after s.vars e a.coefs) (atom_after s.vars e) (if b then printed_at s printed e.to else []) x.keeps y.keeps h.keeps i.keeps)
 
-  edges_one : (es : List Edge) (flags : List Bool) (x y : List EdgeCert) → AreEdgeParts s printed budget es flags x → AreEdgeParts s printed budget es flags y → x ≡ y
+  pub edges_one : (es : List Edge) (flags : List Bool) (x y : List EdgeCert) → AreEdgeParts s printed budget es flags x → AreEdgeParts s printed budget es flags y → x ≡ y
   edges_one [] flags [] [] h i = refl
   edges_one [] flags [] (j ∷ y) h i = absurd i
   edges_one [] flags (k ∷ x) y h i = absurd h
@@ -101,7 +101,7 @@ module _ (s : Graph) (printed : List (List Atom)) (budget : ℕ) where
   edges_one (e ∷ es) (b ∷ flags) (k ∷ x) [] h i = absurd i
   edges_one (e ∷ es) (b ∷ flags) (k ∷ x) (j ∷ y) h i = ap₂ ◌∷◌ (edge_one e b k j h.0 i.0) (edges_one es flags x y h.1 i.1)
 
-same_side : (x y : SideCert) → x.families ≡ y.families → x.entry_keeps ≡ y.entry_keeps → x.edges ≡ y.edges → x.exit_line ≡ y.exit_line → x ≡ y
+pub same_side : (x y : SideCert) → x.families ≡ y.families → x.entry_keeps ≡ y.entry_keeps → x.edges ≡ y.edges → x.exit_line ≡ y.exit_line → x ≡ y
 same_side x y a b c d = make x.families y.families a x.entry_keeps y.entry_keeps b x.edges y.edges c x.exit_line y.exit_line d
   where
     side_of : List (List Atom) → List (List Sparse) → List EdgeCert → Liveness → SideCert
