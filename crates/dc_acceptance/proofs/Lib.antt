@@ -1,0 +1,13 @@
+pub mod Passing
+pub mod Sums
+pub mod Small
+pub mod Items
+pub mod Lines
+pub mod Sides
+pub mod Shorts
+pub mod Bodies
+pub mod Vectors
+pub mod Few
+pub mod Ranges
+pub mod Accepted
+pub mod Certificates
