@@ -1,0 +1,11 @@
+pub mod Checks
+pub mod Numbers
+pub mod Starts
+pub mod Runs
+pub mod Vectors
+pub mod Weights
+pub mod Shown
+pub mod Sides
+pub mod Mains
+pub mod Made
+pub mod Ends

@@ -1,0 +1,96 @@
+-- Numbers that fit 128 bits, and the vectors of fractions that have them.
+use Rattle.std.specs.Prelude.{◌≡◌, ℕ, zero, suc, ◌<◌, ◌≤◌, Bool, true, false, ◌&&◌, nat_lt, List, [], ◌∷◌, ℤ, pos, neg_ℤ, unsigned_abs}
+use Rattle.std.proofs.Common.{refl, sym, ◌∙◌, ap, arith}
+use Rattle.std.proofs.lemmas.Bool.{and_parts}
+use Rattle.std.proofs.lemmas.Int.{ints}
+use Rattle.std.proofs.lemmas.Grind.{common_steps}
+use Rattle.dc_math.specs.Gcd.{gcd}
+use Rattle.dc_math.specs.Rational.{ℚ, Fraction, fraction_of, fraction_neg, of_ℤ, of_ℤ_is, ratio-neg, ◌+ℚ◌, neg_ℚ}
+use Rattle.dc_math.specs.Lowest.{lowest, ratio-lowest, lowest_reduced, lowest-of_reduced}
+use Rattle.dc_frac.specs.Fits.{IsSmall, is_small, fits, difference_fits}
+use Rattle.dc_frac.proofs.ShortWays.{gcd_nat_one}
+use Rattle.dc_lp.proofs.Zeros.{sum-fits}
+use Rattle.std.specs.Prelude.{◌^◌}
+use Rattle.std.proofs.lemmas.Bool.{ltb-false, and_from}
+use Rattle.dc_frac.specs.declared.Frac.{Frac}
+use Rattle.dc_frac.specs.Value.{value}
+use Rattle.dc_lp.specs.Folds.{numbers}
+use Rattle.dc_simplex.specs.Outcomes.{IsVector}
+use Rattle.dc_cert.specs.declared.sparse.Sparse.{Sparse}
+use Rattle.dc_cert.specs.Vectors.{nonzero_from}
+use Rattle.dc_session.specs.Made.{AreItemsOf}
+
+-- both parts are at most 2^127 - 1
+abbrev pub IsNumber : ℚ → Type 0
+IsNumber x = fits x ≡ true
+
+-- ---- sizes
+pub small_true : (z : ℤ) → IsSmall z → is_small z ≡ true
+small_true z l = by (is_small z) refl
+  where
+    by : (b : Bool) → is_small z ≡ b → is_small z ≡ true
+    by true e = e
+    by false e = absurd (let g : 2 ^ 127 ≤ unsigned_abs z = ltb-false (unsigned_abs z) (2 ^ 127) e in omega arith)
+
+small_is : (z : ℤ) → is_small z ≡ true → IsSmall z
+small_is z e = grind (arith, common_steps)
+
+neg_size : (z : ℤ) → unsigned_abs (neg_ℤ z) ≡ unsigned_abs z
+neg_size z = omega (arith, ints)
+
+lowest-neg : (x : ℚ) → lowest (neg_ℚ x) ≡ fraction_neg (lowest x)
+lowest-neg x =
+    ap (λ y. lowest (neg_ℚ y)) (sym (ratio-lowest x)) ∙ ap lowest (ratio-neg (lowest x))
+    ∙ lowest-of_reduced (fraction_neg (lowest x)) (ap (λ n. gcd n (unsigned_abs (lowest x).den)) (neg_size (lowest x).num) ∙ lowest_reduced x)
+
+pub neg_number : (x : ℚ) → IsNumber x → IsNumber (neg_ℚ x)
+unfolding fits
+neg_number x h =
+    ap (λ (f : Fraction). is_small f.num && is_small f.den) (lowest-neg x)
+    ∙ ap (λ n. nat_lt n (2 ^ 127) && is_small (lowest x).den) (neg_size (lowest x).num) ∙ h
+
+pub whole_number : (z : ℤ) → IsSmall z → IsNumber (of_ℤ z)
+unfolding fits
+whole_number z l =
+    ap (λ (f : Fraction). is_small f.num && is_small f.den) (ap lowest (of_ℤ_is z) ∙ lowest-of_reduced (fraction_of z) (gcd_nat_one (unsigned_abs z)))
+    ∙ and_from (is_small z) (is_small (pos 1)) (small_true z l) (small_true (pos 1) (omega arith))
+
+pub zero_number : IsNumber (of_ℤ (pos 0))
+zero_number = whole_number (pos 0) (omega arith)
+
+pub one_number : IsNumber (of_ℤ (pos 1))
+one_number = whole_number (pos 1) (omega arith)
+
+pub difference_number : (x y : ℚ) → difference_fits x y ≡ true → IsNumber (x +ℚ neg_ℚ y)
+difference_number x y h = sum-fits x (neg_ℚ y) h
+
+-- ---- a fraction with the value
+pub fraction_is : (x : ℚ) → IsNumber x → (f : Frac) × (value f ≡ x)
+unfolding fits value
+fraction_is x h = (
+  record {
+    num = (lowest x).num;
+    den = (lowest x).den;
+    positive = (lowest x).den_positive;
+    reduced = lowest_reduced x;
+    small = small_is (lowest x).num (and_parts (is_small (lowest x).num) (is_small (lowest x).den) h).0;
+  },
+  ratio-lowest x,
+)
+
+-- ---- a vector with the values
+pub vector_is : (n : ℕ) (f : ℕ → ℚ) → ((k : ℕ) → k < n → IsNumber (f k)) → (xs : List Frac) × IsVector n f xs
+vector_is zero f h = ([], record { long = refl; each = λ k l. absurd (omega arith) })
+vector_is (suc n) f h =
+    let a = fraction_is (f 0) (h 0 (omega arith)) in
+    let v = vector_is n (λ k. f (suc k)) (λ k l. h (suc k) (omega arith)) in
+    (a.0 ∷ v.0, record { long = ap suc v.1.long; each = each a.0 v.0 a.1 v.1 })
+  where
+    each : (a : Frac) (xs : List Frac) → value a ≡ f 0 → IsVector n (λ k. f (suc k)) xs → (k : ℕ) → k < suc n → numbers (a ∷ xs) k ≡ f k
+    each a xs e v zero l = e
+    each a xs e v (suc k) l = v.each k (omega arith)
+
+pub items_are : (n : ℕ) (f : ℕ → ℚ) → ((k : ℕ) → k < n → IsNumber (f k)) → (v : Sparse) × AreItemsOf n f v
+items_are n f h =
+    let v = vector_is n f h in
+    (record { items = nonzero_from 0 v.0 }, record { whole = v.0; vector = v.1; items = refl })

@@ -1,0 +1,193 @@
+-- The starting table of a problem whose numbers are small.
+use Rattle.std.specs.Prelude.{◌≡◌, ◌⊎◌, ℕ, zero, suc, ◌+◌, ◌<◌, ◌≤◌, ◌==◌, Bool, true, false, cond, if◌then◌else◌, nat_lt, List, [], ℤ, pos, neg_ℤ, ◌+ℤ◌, unsigned_abs, slice_index_or}
+use Rattle.std.proofs.Common.{refl, sym, ◌∙◌, ap, ap₂, subst, arith, inl, inr}
+use Rattle.std.proofs.lemmas.Bool.{cases_lt, and_parts, eqb-true}
+use Rattle.std.proofs.lemmas.Int.{ints}
+use Rattle.std.proofs.lemmas.List.FromFn.{length-map-range_with_len, get_or-map-range_with_len}
+use Rattle.dc_math.specs.Rational.{ℚ, of_ℤ, of_ℤ-+ℤ, ◌+ℚ◌, neg_ℚ, le_ℚ}
+use Rattle.dc_math.specs.RationalField.{rationals}
+use Rattle.dc_math.specs.Order.{of_ℤ-neg_ℤ}
+use Rattle.dc_frac.specs.Fits.{IsSmall}
+use Rattle.dc_lp.specs.Linear.{Linear}
+use Rattle.dc_lp.specs.Tables as tables
+use Rattle.dc_lp.specs.Tables.{Table, made}
+use Rattle.dc_lp.specs.Meanings.{all_below, at}
+use Rattle.dc_points.specs.Stated.{rational}
+use Rattle.dc_families.proofs.Lists.{past_none}
+use Rattle.std.specs.Prelude.{◌^◌}
+use Rattle.std.proofs.lemmas.Bool.{ltb-true}
+use Rattle.dc_endings.proofs.Numbers.{IsNumber, zero_number, whole_number}
+
+-- ---- problems
+-- the sum of the sizes of f 0 to f (n - 1)
+abbrev pub tally : (ℕ → ℤ) → ℕ → ℕ
+tally f zero = 0
+tally f (suc n) = tally f n + unsigned_abs (f n)
+
+-- each column's sizes add up to at most 2^127 - 1, and so do those of the right side; each cost is as small
+pub record IsLight (m : Linear ℤ) : Type 0 where
+  pub columns : (j : ℕ) → j < m.columns → tally (λ i. m.coefficient i j) m.equations < 2 ^ 127
+  pub right_side : tally m.right_side m.equations < 2 ^ 127
+  pub costs : (j : ℕ) → j < m.columns → IsSmall (m.cost j)
+
+-- ---- lists
+pub each_made : {A : Type 0} (P : A → Type 0) (n : ℕ) (f : ℕ → A) (k : ℕ) (d : A) → P d → ((i : ℕ) → i < n → P (f i)) → P (slice_index_or (made n f) k d)
+each_made P n f k d p h = by (cases_lt k n)
+  where
+    by : (k < n) ⊎ (n ≤ k) → P (slice_index_or (made n f) k d)
+    by (inl l) = subst P (sym (get_or-map-range_with_len f 0 n k k d l (omega arith))) (h k l)
+    by (inr l) = subst P (sym (past_none (made n f) k d (let e = length-map-range_with_len f 0 n in omega arith))) p
+
+pub below_at : (n : ℕ) (test : ℕ → Bool) (k : ℕ) → all_below n test ≡ true → k < n → test k ≡ true
+below_at zero test k e l = absurd (omega arith)
+below_at (suc n) test k e l = by (cases_lt k n) (λ g. below_at n test k (and_parts (all_below n test) (test n) e).0 g)
+  where
+    by : (k < n) ⊎ (n ≤ k) → (k < n → test k ≡ true) → test k ≡ true
+    by (inl g) r = r g
+    by (inr g) r = ap test (let q : k ≡ n = omega arith in q) ∙ (and_parts (all_below n test) (test n) e).1
+
+-- ---- tables
+abbrev pub AreNumbers : Table ℚ → Type 0
+AreNumbers t = (i k : ℕ) → IsNumber (at t i k)
+
+abbrev AreWhole : List ℚ → Type 0
+AreWhole xs = (k : ℕ) → IsNumber (slice_index_or xs k (of_ℤ (pos 0)))
+
+nothing_numbers : AreWhole []
+nothing_numbers zero = zero_number
+nothing_numbers (suc k) = zero_number
+
+-- a table made by its entries
+pub made_numbers : (real h w : ℕ) (basis : List ℕ) (f : ℕ → ℕ → ℚ) → ((i k : ℕ) → i < h → k < w → IsNumber (f i k))
+    → AreNumbers (record { real = real; rows = made h (λ i. made w (f i)); basis = basis })
+made_numbers real h w basis f g i k =
+    each_made AreWhole h (λ i. made w (f i)) i [] nothing_numbers
+    (λ i l k. each_made IsNumber w (f i) k (of_ℤ (pos 0)) zero_number (λ k m. g i k l m)) k
+
+-- ---- whole numbers of a size
+record IsSized (x : ℚ) (b : ℕ) : Type 0 where
+  number : ℤ
+  is : x ≡ of_ℤ number
+  size : unsigned_abs number ≤ b
+
+sized_number : (x : ℚ) (b : ℕ) → IsSized x b → b < 2 ^ 127 → IsNumber x
+sized_number x b h l = subst IsNumber (sym h.is) (whole_number h.number (let s = h.size in omega arith))
+
+sized_neg : (x : ℚ) (b : ℕ) → IsSized x b → IsSized (neg_ℚ x) b
+sized_neg x b h = record { number = neg_ℤ h.number; is = ap neg_ℚ h.is ∙ sym (of_ℤ-neg_ℤ h.number); size = (let e = neg_size h.number in let s = h.size in omega arith) }
+  where
+    neg_size : (z : ℤ) → unsigned_abs (neg_ℤ z) ≡ unsigned_abs z
+    neg_size z = omega (arith, ints)
+
+sized_sum : (x y : ℚ) (b c : ℕ) → IsSized x b → IsSized y c → IsSized (x +ℚ y) (b + c)
+sized_sum x y b c h k = record {
+  number = h.number +ℤ k.number;
+  is = ap₂ ◌+ℚ◌ h.is k.is ∙ sym (of_ℤ-+ℤ h.number k.number);
+  size = (let e = size_sum h.number k.number in let s = h.size in let t = k.size in omega arith);
+}
+  where
+    size_sum : (x y : ℤ) → unsigned_abs (x +ℤ y) ≤ unsigned_abs x + unsigned_abs y
+    size_sum x y = omega (arith, ints)
+
+whole_sized : (z : ℤ) → IsSized (of_ℤ z) (unsigned_abs z)
+whole_sized z = record { number = z; is = refl; size = omega arith }
+
+-- ---- sums of sizes
+abbrev total : (ℕ → ℕ) → ℕ → ℕ
+total f zero = 0
+total f (suc n) = total f n + f n
+
+total_tally : (f : ℕ → ℤ) (n : ℕ) → total (λ i. unsigned_abs (f i)) n ≡ tally f n
+total_tally f zero = refl
+total_tally f (suc n) = ap (λ k. k + unsigned_abs (f n)) (total_tally f n)
+
+total_part : (f : ℕ → ℕ) (n i : ℕ) → i < n → f i ≤ total f n
+total_part f zero i l = absurd (omega arith)
+total_part f (suc n) i l = by (cases_lt i n) (λ g. total_part f n i g)
+  where
+    by : (i < n) ⊎ (n ≤ i) → (i < n → f i ≤ total f n) → f i ≤ total f n + f n
+    by (inl g) r = let a = r g in omega arith
+    by (inr g) r = let q : f i ≡ f n = ap f (let e : i ≡ n = omega arith in e) in omega arith
+
+-- one at the place k - c, and 0 elsewhere
+abbrev hit : (k c i : ℕ) → ℕ
+hit k c i = cond (k == c + i) 1 0
+
+hit_none : (k c n : ℕ) → c + n ≤ k → total (hit k c) n ≡ 0
+hit_none k c zero l = refl
+hit_none k c (suc n) l = by (k == c + n) refl (hit_none k c n (omega arith))
+  where
+    by : (b : Bool) → (k == c + n) ≡ b → total (hit k c) n ≡ 0 → total (hit k c) n + cond b 1 0 ≡ 0
+    by true e r = absurd (let q : k ≡ c + n = eqb-true k (c + n) e in omega arith)
+    by false e r = omega arith
+
+hit_once : (k c n : ℕ) → total (hit k c) n ≤ 1
+hit_once k c zero = omega arith
+hit_once k c (suc n) = by (k == c + n) refl (hit_once k c n)
+  where
+    by : (b : Bool) → (k == c + n) ≡ b → total (hit k c) n ≤ 1 → total (hit k c) n + cond b 1 0 ≤ 1
+    by true e r = let q : k ≡ c + n = eqb-true k (c + n) e in let z = hit_none k c n (omega arith) in omega arith
+    by false e r = omega arith
+
+-- ---- the start
+module _ (m : Linear ℤ) (light : IsLight m) where
+  abbrev p : Linear ℚ
+  p = rational m
+
+  signed_sized : (i : ℕ) (x : ℚ) (b : ℕ) → IsSized x b → IsSized (tables.signed ℚ rationals p i x) b
+  signed_sized i x b h = by (le_ℚ (of_ℤ (pos 0)) (p.right_side i))
+    where
+      by : (d : Bool) → IsSized (cond d x (neg_ℚ x)) b
+      by true = h
+      by false = sized_neg x b h
+
+  -- how large an entry is at most
+  abbrev entry_size : ℕ → ℕ → ℕ
+  entry_size k i = cond (nat_lt k m.columns) (unsigned_abs (m.coefficient i k)) (cond (nat_lt k (m.columns + m.equations)) (hit k m.columns i) (unsigned_abs (m.right_side i)))
+
+  entry_sized : (i k : ℕ) → IsSized (tables.start_entry ℚ rationals p i k) (entry_size k i)
+  unfolding tables.start_entry
+  entry_sized i k = by (nat_lt k m.columns) (nat_lt k (m.columns + m.equations)) (k == m.columns + i)
+    where
+      by : (b c d : Bool)
+          → IsSized (if b then tables.signed ℚ rationals p i (p.coefficient i k) else if c then (if d then of_ℤ (pos 1) else of_ℤ (pos 0)) else tables.signed ℚ rationals p i (p.right_side i))
+          (cond b (unsigned_abs (m.coefficient i k)) (cond c (cond d 1 0) (unsigned_abs (m.right_side i))))
+      by true c d = signed_sized i (p.coefficient i k) (unsigned_abs (m.coefficient i k)) (whole_sized (m.coefficient i k))
+      by false true true = whole_sized (pos 1)
+      by false true false = whole_sized (pos 0)
+      by false false d = signed_sized i (p.right_side i) (unsigned_abs (m.right_side i)) (whole_sized (m.right_side i))
+
+  sums_sized : (k n : ℕ) → IsSized (tables.minus_sum ℚ rationals p k n) (total (entry_size k) n)
+  unfolding tables.minus_sum
+  sums_sized k zero = whole_sized (pos 0)
+  sums_sized k (suc n) =
+      sized_sum (tables.minus_sum ℚ rationals p k n) (neg_ℚ (tables.start_entry ℚ rationals p n k)) (total (entry_size k) n) (entry_size k n) (sums_sized k n)
+      (sized_neg (tables.start_entry ℚ rationals p n k) (entry_size k n) (entry_sized n k))
+
+  total_small : (k : ℕ) → total (entry_size k) m.equations < 2 ^ 127
+  total_small k = by (nat_lt k m.columns) (nat_lt k (m.columns + m.equations)) refl
+    where
+      by : (b c : Bool) → nat_lt k m.columns ≡ b
+          → total (λ i. cond b (unsigned_abs (m.coefficient i k)) (cond c (hit k m.columns i) (unsigned_abs (m.right_side i)))) m.equations < 2 ^ 127
+      by true c e = let a = total_tally (λ i. m.coefficient i k) m.equations in let l = light.columns k (ltb-true k m.columns e) in omega arith
+      by false true e = let a = hit_once k m.columns m.equations in omega arith
+      by false false e = let a = total_tally m.right_side m.equations in let l = light.right_side in omega arith
+
+  value_number : (i k : ℕ) → IsNumber (tables.start_value ℚ rationals p i k)
+  unfolding tables.start_value
+  value_number i k = by (nat_lt i p.equations) (i == p.equations) (nat_lt k p.columns) refl refl
+    where
+      by : (b c d : Bool) → nat_lt i p.equations ≡ b → nat_lt k p.columns ≡ d
+          → IsNumber (if b then tables.start_entry ℚ rationals p i k else if c then tables.minus_sum ℚ rationals p k p.equations else if d then p.cost k else of_ℤ (pos 0))
+      by true c d e g =
+          sized_number (tables.start_entry ℚ rationals p i k) (entry_size k i) (entry_sized i k)
+          (let a = total_part (entry_size k) m.equations i (ltb-true i m.equations e) in let s = total_small k in omega arith)
+      by false true d e g = sized_number (tables.minus_sum ℚ rationals p k m.equations) (total (entry_size k) m.equations) (sums_sized k m.equations) (total_small k)
+      by false false true e g = whole_number (m.cost k) (light.costs k (ltb-true k m.columns g))
+      by false false false e g = zero_number
+
+  pub start_numbers : AreNumbers (tables.start ℚ rationals p)
+  unfolding tables.start
+  start_numbers =
+      made_numbers p.columns (p.equations + 2) (p.columns + p.equations + 1) (made p.equations (λ i. p.columns + i)) (tables.start_value ℚ rationals p)
+      (λ i k l g. value_number i k)
