@@ -1,0 +1,12 @@
+use Rattle.std.proofs.Common.{sym, ◌∙◌}
+use Rattle.dc_frac.specs.Value.{value}
+use Rattle.dc_engine.proofs.Bodies.{difference_left, difference_right, left_zero, is_zero_true}
+use Rattle.dc_engine.proofs.body.difference.Goals as goal
+
+pub returns-then-is_zero : goal.returns-then-is_zero
+returns-then-is_zero c = difference_left (value c.args.plus.now) (value c.args.minus.now) (is_zero_true (value c.args.minus.now) (sym c.is_zero.ensures ∙ c.if-is_zero.true))
+
+pub returns-else-is_zero : goal.returns-else-is_zero
+returns-else-is_zero c =
+    difference_right (value c.args.plus.now) (value c.args.minus.now) (value c.neg.result)
+    (left_zero (value c.args.plus.now) (value c.args.minus.now) c.requires (sym c.is_zero.ensures ∙ c.if-is_zero.false)) c.neg.ensures
