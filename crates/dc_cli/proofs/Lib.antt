@@ -1,4 +1,6 @@
-mod Trees
-mod Refusals
-mod Ends
-mod Told
+mod Results
+mod Misreads
+mod Fetches
+mod Refused
+mod Commands
+mod Tops

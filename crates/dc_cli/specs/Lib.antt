@@ -1,7 +1,6 @@
-pub mod Words
-pub mod Visits
-pub mod Answer
-pub mod Causes
-pub mod Due
-pub mod Lines
 pub mod Reports
+pub mod Fetched
+pub mod Texts
+pub mod Analysed
+pub mod Steps
+pub mod Written

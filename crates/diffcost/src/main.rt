@@ -7,6 +7,7 @@
 
 use dc_cli::top;
 use dc_host::{FileStore, StdSink};
+use dc_sparse::Cross;
 use std::process::ExitCode;
 use std::{env, io};
 
@@ -23,7 +24,16 @@ fn main(rt: HostRuntime) -> ExitCode {
     let mut store = FileStore::new(&rt);
     let mut out = StdSink::new(rt.stdout());
     let mut err = StdSink::new(rt.stderr());
-    ExitCode::from(top(rt.alloc(), &words, &mut store, &mut out, &mut err))
+    let mut tableau = Cross::new(rt.alloc());
+    let status = top(
+        rt.alloc(),
+        &words,
+        &mut store,
+        &mut out,
+        &mut err,
+        &mut tableau,
+    );
+    ExitCode::from(status)
 }
 
 /// The words after the program's name.

@@ -1,0 +1,5 @@
+pub mod Readings
+pub mod Texts
+pub mod Checks
+pub mod One
+pub mod Meanings

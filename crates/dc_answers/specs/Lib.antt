@@ -1,0 +1,9 @@
+pub mod Statuses
+pub mod Lines
+pub mod Claims
+pub mod Sources
+pub mod Outside
+pub mod Ends
+pub mod Headline
+pub mod Promise
+pub mod Laws

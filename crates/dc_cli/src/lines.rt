@@ -1,0 +1,174 @@
+//! The lines of refusals.
+ghost use Rattle.std.specs.Prelude.{◌≡◌, IfOk, MatchOption};
+ghost use Rattle.std.specs.String.{string_bytes};
+ghost use Rattle.dc_answers.specs.Lines.{line_of, place_text, unread_line, bad_line, source_line, large_line, pivot_line, fold_line, spent_line, rejected_line};
+ghost use Rattle.dc_cli.specs.Reports.{IsBuilt};
+
+use crate::words::{count_word, place_in, side_word, text_word, usage, wrong_word};
+use dc_answers::{Refusal, Text, Wrong};
+use dc_entail::Place;
+use dc_syntax::{Count, Side};
+use std::alloc::{AllocError, Global};
+
+/// The line of a refusal that wants no memory for it.
+pub fn fixed_line(refusal: &Refusal) -> Option<&'static str>
+    ensures { MatchOption result (IsBuilt refusal.now) (λ line. line.now ≡ line_of refusal.now) }
+{
+    match refusal {
+        Refusal::Usage => Some(usage()),
+        Refusal::Unwritten => Some("write fault\n"),
+        Refusal::NoMemory => Some("no memory\n"),
+        Refusal::Unread(_) => None,
+        Refusal::BadCertificate { .. } => None,
+        Refusal::Source(_, _) => None,
+        Refusal::TooLarge { .. } => None,
+        Refusal::PastPivot { .. } => None,
+        Refusal::PastFold { .. } => None,
+        Refusal::Spent { .. } => None,
+        Refusal::Rejected { .. } => None,
+    }
+}
+
+/// The line of another refusal.
+pub fn built_line(alloc: Global, refusal: &Refusal) -> Result<String, AllocError>
+    requires { IsBuilt refusal.now }
+    ensures { IfOk result (λ line. string_bytes line ≡ line_of refusal.now) }
+{
+    match refusal {
+        Refusal::Usage => unreachable!(),
+        Refusal::Unwritten => unreachable!(),
+        Refusal::NoMemory => unreachable!(),
+        Refusal::Unread(name) => unread(alloc, name.as_str()),
+        Refusal::BadCertificate { line } => bad_certificate(alloc, *line),
+        Refusal::Source(text, wrong) => source(alloc, *text, wrong),
+        Refusal::TooLarge { side, what, count } => too_large(alloc, *side, *what, *count),
+        Refusal::PastPivot { place, pivot } => past_pivot(alloc, *place, *pivot),
+        Refusal::PastFold { clause, index } => past_fold(alloc, *clause, *index),
+        Refusal::Spent { place } => spent(alloc, *place),
+        Refusal::Rejected { clause, index } => rejected(alloc, *clause, *index),
+    }
+}
+
+fn unread(alloc: Global, name: &str) -> Result<String, AllocError>
+    ensures { IfOk result (λ text. string_bytes text ≡ unread_line name.now) }
+{
+    let text = format!(in alloc; "read fault: {name}\n")?;
+    Ok(text)
+}
+
+fn bad_certificate(alloc: Global, line: u64) -> Result<String, AllocError>
+    ensures { IfOk result (λ text. string_bytes text ≡ bad_line line) }
+{
+    let text = format!(in alloc; "bad certificate: line {line}\n")?;
+    Ok(text)
+}
+
+fn source(alloc: Global, text: Text, wrong: &Wrong) -> Result<String, AllocError>
+    ensures { IfOk result (λ line. string_bytes line ≡ source_line text wrong.now) }
+{
+    let text = text_word(text);
+    let (line, column) = place_in(wrong);
+    let word = wrong_word(wrong);
+    let whole = format!(in alloc; "source fault: {text} {line}:{column} {word}\n")?;
+    Ok(whole)
+}
+
+fn too_large(
+    alloc: Global,
+    side: Option<Side>,
+    what: Count,
+    count: u64,
+) -> Result<String, AllocError>
+    ensures { IfOk result (λ text. string_bytes text ≡ large_line side what count) }
+{
+    let what = count_word(what);
+    match side {
+        Some(side) => {
+            let side = side_word(side);
+            let text = format!(in alloc; "too large: {side} {what} {count}\n")?;
+            Ok(text)
+        }
+        None => {
+            let text = format!(in alloc; "too large: {what} {count}\n")?;
+            Ok(text)
+        }
+    }
+}
+
+fn past_pivot(alloc: Global, place: Place, pivot: u64) -> Result<String, AllocError>
+    ensures { IfOk result (λ text. string_bytes text ≡ pivot_line place pivot) }
+{
+    let place = place_words(alloc, place)?;
+    let place = place.as_str();
+    let text = format!(in alloc; "past 128 bits: {place} pivot {pivot}\n")?;
+    Ok(text)
+}
+
+fn past_fold(alloc: Global, clause: u8, index: u64) -> Result<String, AllocError>
+    ensures { IfOk result (λ text. string_bytes text ≡ fold_line clause index) }
+{
+    let text = format!(in alloc; "past 128 bits: check clause {clause} index {index}\n")?;
+    Ok(text)
+}
+
+fn spent(alloc: Global, place: Place) -> Result<String, AllocError>
+    ensures { IfOk result (λ text. string_bytes text ≡ spent_line place) }
+{
+    let place = place_words(alloc, place)?;
+    let place = place.as_str();
+    let text = format!(in alloc; "pivots spent: {place}\n")?;
+    Ok(text)
+}
+
+fn rejected(alloc: Global, clause: u8, index: u64) -> Result<String, AllocError>
+    ensures { IfOk result (λ text. string_bytes text ≡ rejected_line clause index) }
+{
+    let text = format!(in alloc; "rejected: clause {clause} index {index}\n")?;
+    Ok(text)
+}
+
+/// The place of a problem, as lines spell it.
+fn place_words(alloc: Global, place: Place) -> Result<String, AllocError>
+    ensures { IfOk result (λ text. string_bytes text ≡ place_text place) }
+{
+    match place {
+        Place::When { case } => format!(in alloc; "when {case}"),
+        Place::EntryRow { side, case, row } => {
+            let side = side_word(side);
+            format!(in alloc; "{side} entry case {case} row {row}")
+        }
+        Place::Edge { side, edge } => {
+            let side = side_word(side);
+            format!(in alloc; "{side} edge {edge}")
+        }
+        Place::EdgeRow { side, edge, row } => {
+            let side = side_word(side);
+            format!(in alloc; "{side} edge {edge} row {row}")
+        }
+        Place::Prune {
+            side,
+            location,
+            row,
+        } => {
+            let side = side_word(side);
+            format!(in alloc; "{side} prune {location} row {row}")
+        }
+        Place::KeptEntry { side, case, atom } => {
+            let side = side_word(side);
+            format!(in alloc; "{side} kept entry case {case} atom {atom}")
+        }
+        Place::KeptEdge { side, edge } => {
+            let side = side_word(side);
+            format!(in alloc; "{side} kept edge {edge}")
+        }
+        Place::KeptAtom { side, edge, atom } => {
+            let side = side_word(side);
+            format!(in alloc; "{side} kept edge {edge} atom {atom}")
+        }
+        Place::Exit { side } => {
+            let side = side_word(side);
+            format!(in alloc; "{side} exit")
+        }
+        Place::Main => String::from_str(alloc, "main"),
+    }
+}
