@@ -1,0 +1,38 @@
+-- The size of a table, at its start and after a pivot.
+use Rattle.std.proofs.Common.{◌≡◌, ℕ, ◌+◌, ◌<◌, false, length, refl, sym, ◌∙◌, arith}
+use Rattle.dc_lp.specs.declared.Problem.{Problem}
+use Rattle.dc_lp.specs.Problems.{linear_of}
+use Rattle.dc_math.specs.Tests as tests
+use Rattle.dc_lp.specs.Meanings.{Meaning, IsPlace, IsPivotPlace, at, resting, ready_at, start, pivoted}
+use Rattle.dc_lp.proofs.FieldTests.{zero_test}
+use Rattle.dc_simplex.proofs.Steps.{start-basis, start-real, pivoted-basis, pivoted-real}
+use Rattle.dc_tableau_trials.specs.Sizes.{IsOver, IsReadyAt}
+
+pub over_start : (x : Meaning) (p : Problem) (n : ℕ) → x ≡ resting (start p) → n ≡ length p.columns.items → IsOver x p.rows n
+over_start x p n e h = rw e (record {
+  usable = record { loaded = refl; whole = refl };
+  rows = start-basis (linear_of p);
+  columns = start-real (linear_of p) ∙ sym h;
+})
+
+pub over_ready : (x y : Meaning) (m n r j : ℕ) → IsOver x m n → r < m → j < n → tests.is_zero (at x.table r j) ≡ false → y ≡ ready_at x.table r j → IsReadyAt y m n r j
+over_ready x y m n r j h a b z e = (let w = h.rows in let c = h.columns in rw e (record {
+  over = record { usable = record { loaded = refl; whole = refl }; rows = w; columns = c };
+  place = record { row = omega arith; column = omega arith; nonzero = zero_test (at x.table r j) ∙ z };
+  ready = refl;
+}))
+
+pub over_pivoted : (x y : Meaning) (m n r j : ℕ) → IsReadyAt x m n r j → y ≡ resting (pivoted x.table r j) → IsOver y m n
+over_pivoted x y m n r j h e = rw e (record {
+  usable = record { loaded = refl; whole = refl };
+  rows = pivoted-basis x.table r j ∙ h.over.rows;
+  columns = pivoted-real x.table r j ∙ h.over.columns;
+})
+
+pub place_over : (x : Meaning) (m n i k : ℕ) → IsOver x m n → i < m + 2 → k < m + n + 1 → IsPlace x.table i k
+place_over x m n i k h a b = (let r = h.rows in let c = h.columns in record { row = omega arith; column = omega arith })
+
+pub pivot_place : (x : Meaning) (m n r j : ℕ) → IsOver x m n → r < m → j < n → tests.is_zero (at x.table r j) ≡ false → IsPivotPlace x.table r j
+pivot_place x m n r j h a b z = (let w = h.rows in let c = h.columns in record { row = omega arith; column = omega arith; nonzero = zero_test (at x.table r j) ∙ z })
+
+pub ruleset sizes = (over_start, place_over)

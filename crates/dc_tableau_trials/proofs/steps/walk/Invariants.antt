@@ -1,0 +1,9 @@
+use Rattle.dc_sparse.specs.Meanings.{cross_meaning}
+use Rattle.dc_tableau_trials.specs.Sizes.{IsOver}
+use Rattle.dc_tableau_trials.proofs.steps.walk.Given as goal
+
+abbrev pub invariant-loop-place : goal.invariant-loop-place
+invariant-loop-place g l = record {
+  first : IsOver (g.S.Tableau.meaning l.dense) l.rows l.columns;
+  second : IsOver (cross_meaning l.cross) l.rows l.columns;
+}
