@@ -10,4 +10,6 @@ mod session;
 mod sides;
 mod versions;
 
+pub use dc_cert::Settings;
+pub use dc_session::{AnalyseFault, PastAt};
 pub use session::{analyse, analyse_on};
