@@ -1,6 +1,6 @@
 -- A check is refused for one reason, or accepts.
-use Rattle.std.proofs.Common.{◌≡◌, ◌≢◌, refl, sym, ◌∙◌, ap, subst, inl, inr, arith, ℕ, Bool, true, false, List, [], ◌∷◌, Option, Some, None}
-use Rattle.std.specs.Prelude.{◌⊎◌, cond}
+use Rattle.std.proofs.Common.{◌≡◌, ◌≢◌, refl, sym, ◌∙◌, ap, subst, inl, inr, arith, ℕ, false, List, [], ◌∷◌, Option, Some, None}
+use Rattle.std.specs.Prelude.{cond}
 use Rattle.dc_syntax.specs.declared.tree.Proc.{Proc}
 use Rattle.dc_syntax.specs.declared.tree.Side.{Side}
 use Rattle.dc_syntax.specs.declared.tree.Side.TheVariants.{New, Old}
@@ -21,7 +21,7 @@ use Rattle.dc_clauses.specs.Sides.{family_steps}
 use Rattle.dc_check.specs.declared.fault.CheckFault.{CheckFault}
 use Rattle.dc_check.specs.declared.fault.CheckFault.TheVariants.{Rejected, Past128, TooLarge, NoMemory}
 use Rattle.dc_check.specs.Systems.{IsSystemOf, HasSystems}
-use Rattle.dc_check.specs.Answers.{main_fault, Accepts, IsFirst, FailsAt, IsTooWide, IsTooLarge, IsFault}
+use Rattle.dc_check.specs.Answers.{main_fault, Accepts, IsFirst, FailsAt, IsTooLarge, IsFault}
 use Rattle.dc_session.proofs.Stops.{one_failure, accepts_or_fails}
 
 some_same : {A : Type 0} (x y : A) (o : Option A) → o ≡ Some x → o ≡ Some y → x ≡ y

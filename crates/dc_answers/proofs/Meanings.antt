@@ -1,7 +1,5 @@
 -- What is printed means what the headline says.
-use Rattle.std.proofs.Common.{◌≡◌, refl, sym, ◌∙◌, ap, subst, inl, inr, ℕ, true, List, [], ◌∷◌, ◌++◌, ◌≤◌, length, Option, Some, None}
-use Rattle.std.specs.Prelude.{ℤ}
-use Rattle.dc_frac.specs.Value.{value}
+use Rattle.std.proofs.Common.{◌≡◌, refl, sym, ◌∙◌, ap, subst, inr, ℕ, List, [], ◌∷◌, ◌++◌, ◌≤◌, length, Option, Some, None}
 use Rattle.dc_syntax.specs.declared.tree.Proc.{Proc}
 use Rattle.dc_syntax.specs.Value.{State}
 use Rattle.dc_syntax.specs.Params.{params_of}
@@ -10,8 +8,6 @@ use Rattle.dc_affine.specs.Atoms.{Allowed}
 use Rattle.dc_lines.specs.Bytes.{Bytes, ended}
 use Rattle.dc_lp.specs.Meanings.{Meaning}
 use Rattle.dc_cert.specs.declared.certificate.Settings.{Settings}
-use Rattle.dc_cert.specs.declared.certificate.Body.{Body}
-use Rattle.dc_cert.specs.declared.certificate.Body.TheVariants as B
 use Rattle.dc_cert.specs.declared.certificate.Claim.{Claim}
 use Rattle.dc_cert.specs.declared.certificate.Claim.TheVariants.{Threshold, Nothing, Vacuous}
 use Rattle.dc_cert.specs.declared.certificate.Certificate.{Certificate}
@@ -19,29 +15,23 @@ use Rattle.dc_cert.specs.Claims.{claim_of}
 use Rattle.dc_certtext.specs.Text.{text_of, claim_lines, whole_line}
 use Rattle.dc_certtext.specs.Limits.{limit, HasText}
 use Rattle.dc_claims.specs.Duties.{Pair}
-use Rattle.dc_system.specs.declared.edges.System.{System}
 use Rattle.dc_check.specs.Claims.{ShowsClaim}
 use Rattle.dc_check.specs.Pairs.{pair}
-use Rattle.dc_check.specs.Systems.{HasSystems}
-use Rattle.dc_check.specs.Answers.{Accepts}
 use Rattle.dc_families.specs.Graphs.{graph_of}
 use Rattle.dc_families.specs.Printed as families
-use Rattle.dc_parse.specs.Laws.{HoldWhereTrue}
 use Rattle.dc_parse.proofs.Said.{hold_where_true}
-use Rattle.dc_session.specs.Session.{Input, Analysis, IsAnalysis, candidates_for}
-use Rattle.dc_session.specs.Made.{IsMade}
+use Rattle.dc_session.specs.Session.{Input, candidates_for}
 use Rattle.dc_session.specs.Answers.{TellsCertificate}
 use Rattle.dc_session.proofs.Analyses.{are_of_greatest}
-use Rattle.dc_words.specs.Reading.{Reading, for_analyse, for_check, for_sample, IsReading}
+use Rattle.dc_words.specs.Reading.{Reading, for_analyse, for_check, for_sample}
 use Rattle.dc_answers.specs.declared.refusal.Refusal.{Refusal}
 use Rattle.dc_answers.specs.Sources.{SaysCases, Say}
 use Rattle.dc_answers.specs.Sources as sources
 use Rattle.dc_answers.specs.Ends.{Output, output, End, Printed, Refused, TextsEnd, misread, understood, InputEnds, stops, shows, input_of, settings_of, IsWritten, short, long, AnalyseEnds, SampleEnds, CheckEnds, no_text, has_text, CertificateEnds, fails, holds, IsSummed, ReadingEnds, Answers, usage, asked}
 use Rattle.dc_answers.specs.Ends as ends
-use Rattle.dc_answers.specs.Claims.{claim_status, claim_line}
-use Rattle.dc_answers.specs.Headline.{IsAllowed, AreRuns, ClaimMeans, ArePrintedOf, HasInvariants, AnalysisMeans, BeginsWith, AnalyseMeans, SampleMeans, CheckMeans, Means}
-use Rattle.dc_answers.specs.Laws.{HasMeaning, OutputsMean, IsAccepted, PrintedIsAccepted}
-use Rattle.dc_answers.proofs.Texts.{one_cases, one_program}
+use Rattle.dc_answers.specs.Claims.{claim_line}
+use Rattle.dc_answers.specs.Headline.{IsAllowed, ClaimMeans, HasInvariants, AnalysisMeans, BeginsWith, AnalyseMeans, SampleMeans, CheckMeans, Means}
+use Rattle.dc_answers.specs.Laws.{OutputsMean, PrintedIsAccepted}
 use Rattle.dc_answers.proofs.Checks.{one_system}
 
 -- ---- runs: an input that the condition allows is allowed by its cases

@@ -1,6 +1,6 @@
 -- Words and texts have one answer.
-use Rattle.std.proofs.Common.{◌≡◌, ◌<◌, ◌≤◌, refl, sym, ◌∙◌, ap, subst, inl, inr, arith, ℕ, Bool, true, false, List, [], ◌∷◌, length, Option, Some, None}
-use Rattle.std.specs.Prelude.{slice_get, codes}
+use Rattle.std.proofs.Common.{◌≡◌, ◌<◌, ◌≤◌, sym, ◌∙◌, ap, subst, inl, inr, arith, ℕ, Bool, true, false, List, [], ◌∷◌, length, Option, Some, None}
+use Rattle.std.specs.Prelude.{codes}
 use Rattle.dc_syntax.specs.declared.tree.Proc.{Proc}
 use Rattle.dc_affine.specs.declared.atom.Atom.{Atom}
 use Rattle.dc_lines.specs.Bytes.{Bytes}
@@ -22,7 +22,6 @@ use Rattle.dc_answers.specs.declared.refusal.Text.{Text}
 use Rattle.dc_answers.specs.declared.refusal.Wrong.{Wrong}
 use Rattle.dc_answers.specs.declared.refusal.Refusal.TheVariants as r
 use Rattle.dc_answers.specs.Sources.{Told, says_pair, is_wrong}
-use Rattle.dc_answers.specs.Outside.{File}
 use Rattle.dc_answers.specs.Claims.{claim_status}
 use Rattle.dc_answers.specs.Ends.{Output, output, End, Printed, Refused, TextsEnd, misread, understood, InputEnds, stops, shows, of_analysis, input_of, AnalysisEnds, IsWritten, short, long, AnalyseEnds, of_check, CheckEnds, no_text, has_text, SampleEnds, IsSummed, ReadingEnds, files_of, Names, Answers, usage, asked}
 use Rattle.dc_answers.specs.Ends as ends

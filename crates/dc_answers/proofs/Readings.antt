@@ -1,10 +1,9 @@
 -- Words have one reading at most: the law of `dc_words::laws::one_reading`, as a lemma.
-use Rattle.std.proofs.Common.{◌≡◌, ◌⊎◌, inl, inr, ◌∙◌, ℕ, Bool, true, false, List, Option, Some, None, refl, sym, ap, arith, length, codes}
-use Rattle.std.specs.Prelude.{option_map, slice_get}
-use Rattle.clap.specs.Walk.{Row, Text, first_of, one_of}
+use Rattle.std.proofs.Common.{◌≡◌, inl, inr, ◌∙◌, ℕ, Bool, true, false, List, Option, Some, refl, sym, ap, arith, length, codes}
+use Rattle.clap.specs.Walk.{Row, Text}
 use Rattle.dc_words.specs.Rules.{analyse, check, sample}
-use Rattle.dc_words.specs.Taken.{line_rows, number_of}
-use Rattle.dc_words.specs.Reading.{Search, Reading, for_analyse, for_check, for_sample, IsNumberIn, row_name, IsSettings, IsAnalyse, IsCheck, IsSample, IsLine, IsReading}
+use Rattle.dc_words.specs.Taken.{line_rows}
+use Rattle.dc_words.specs.Reading.{Search, Reading, for_analyse, for_check, for_sample, row_name, IsSettings, IsAnalyse, IsCheck, IsSample, IsReading}
 
 same_text : {o : Option Text} {x y : Text} → o ≡ Some x → o ≡ Some y → x ≡ y
 same_text {o} {x} {y} h k = let e : Some x ≡ Some y = sym h ∙ k in cc

@@ -1,5 +1,5 @@
 -- Texts say one thing together, or one is wrong first.
-use Rattle.std.proofs.Common.{◌≡◌, ◌≢◌, refl, sym, ◌∙◌, ap, subst, ℕ, List, [], ◌∷◌, Option, Some, None}
+use Rattle.std.proofs.Common.{◌≡◌, ◌≢◌, refl, sym, ◌∙◌, ap, subst, ℕ, List, Option, Some, None}
 use Rattle.dc_syntax.specs.declared.tree.Proc.{Proc}
 use Rattle.dc_syntax.specs.Params.{params_of, HaveSameParams}
 use Rattle.dc_affine.specs.declared.atom.Atom.{Atom}
@@ -16,7 +16,7 @@ use Rattle.dc_parse.specs.Judges.{judge_source, judge_condition}
 use Rattle.dc_parse.specs.Answers.{SourceOutcome, ConditionOutcome, IsRefusal}
 use Rattle.dc_parse.proofs.Judged.{one_outcome}
 use Rattle.dc_answers.specs.declared.refusal.Text.TheVariants.{New, Old, When}
-use Rattle.dc_answers.specs.declared.refusal.Wrong.TheVariants.{Parse, ParametersDiffer}
+use Rattle.dc_answers.specs.declared.refusal.Wrong.TheVariants.{Parse}
 use Rattle.dc_answers.specs.Sources.{SaysProgram, SaysCases, SayPair, IsFaultIn, IsConditionFault, Told, says_pair, is_wrong, Tells, new_wrong, old_wrong, differ, when_wrong, all_say}
 
 -- ---- one text

@@ -1,5 +1,5 @@
 -- The status of each refusal, and the line that is written on the error sink.
-use Rattle.std.specs.Prelude.{ℕ, List, [], ◌++◌, codes, Option, Some, None}
+use Rattle.std.specs.Prelude.{ℕ, ◌++◌, codes, Option, Some, None}
 use Rattle.std.specs.Fmt.{decimal}
 use Rattle.std.specs.String.{string_bytes}
 use Rattle.dc_syntax.specs.declared.tree.Side.{Side}

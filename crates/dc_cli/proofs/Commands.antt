@@ -1,5 +1,5 @@
 -- What a command's last step comes to, as what the command comes to.
-use Rattle.std.proofs.Common.{◌≡◌, refl, sym, ◌∙◌, ap, subst, inl, inr, lit≤, ℕ, ◌≤◌, ◌<◌, List, [], ◌∷◌, ◌++◌, length, append_assoc, Option, Some, None}
+use Rattle.std.proofs.Common.{◌≡◌, refl, sym, ◌∙◌, ap, subst, lit≤, ℕ, ◌≤◌, ◌<◌, List, [], ◌∷◌, ◌++◌, length, append_assoc, Option, Some, None}
 use Rattle.std.specs.Prelude.{Ok, Err, IfOk, IfErr, codes}
 use Rattle.std.specs.Fmt.{decimal}
 use Rattle.std.specs.declared.alloc.AllocError.{AllocError}
@@ -33,17 +33,15 @@ use Rattle.dc_check.specs.declared.fault.CheckFault.{CheckFault}
 use Rattle.dc_check.specs.Answers as checks
 use Rattle.dc_answers.specs.declared.refusal.Refusal.{Refusal}
 use Rattle.dc_answers.specs.declared.refusal.Refusal.TheVariants as r
-use Rattle.dc_answers.specs.Statuses as status
 use Rattle.dc_answers.specs.Claims.{claim_status, claim_line, accepted_text}
 use Rattle.dc_answers.specs.Sources.{Say}
-use Rattle.dc_answers.specs.Outside.{File, file, source_limit, Visit}
-use Rattle.dc_answers.specs.Ends.{Output, output, End, Printed, Refused, understood, shows, input_of, of_analysis, AnalysisEnds, IsWritten, short, long, AnalyseEnds, CertificateEnds, holds, of_check, CheckEnds, has_text, new_source, old_source, sample_condition, sample_settings, sample_text, IsSummed, SampleEnds, ReadingEnds, files_of}
-use Rattle.dc_answers.specs.Promise.{IsLeft}
+use Rattle.dc_answers.specs.Outside.{file, source_limit, Visit}
+use Rattle.dc_answers.specs.Ends.{output, End, Printed, Refused, understood, input_of, of_analysis, IsWritten, short, long, AnalyseEnds, CertificateEnds, holds, of_check, CheckEnds, has_text, new_source, old_source, sample_condition, sample_settings, sample_text, IsSummed, SampleEnds, ReadingEnds, files_of}
 use Rattle.dc_cli.specs.declared.output.Output.{Output as Made}
-use Rattle.dc_cli.specs.Fetched.{IsFetched, IsUnfetched}
+use Rattle.dc_cli.specs.Fetched.{IsFetched}
 use Rattle.dc_cli.specs.Texts.{AreRead, IsMisread}
 use Rattle.dc_cli.specs.Analysed.{search_of, IsAnalysed, IsHalted, IsUnanalysed}
-use Rattle.dc_cli.specs.Steps.{IsRefusedBy, IsOutput, IsRefused, IsOutputOf, IsRefusedOf, IsOutputFor, IsRefusedFor}
+use Rattle.dc_cli.specs.Steps.{IsRefusedBy, IsOutputOf, IsRefusedOf, IsOutputFor, IsRefusedFor}
 use Rattle.dc_cli.proofs.Refused.{refused_map, halted, unanalysed_halted, unanalysed_end, analysed_end, certificate_end, misread_end, over_files, for_words}
 
 -- ---- the certificate of two programs

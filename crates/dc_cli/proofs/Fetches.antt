@@ -8,8 +8,8 @@ use Rattle.dc_host.specs.Outside.{Files, Rose, IsTextOf, IsAbsent}
 use Rattle.dc_lines.specs.Bytes.{Bytes}
 use Rattle.dc_answers.specs.declared.refusal.Refusal.{Refusal}
 use Rattle.dc_answers.specs.declared.refusal.Refusal.TheVariants.{Unread, NoMemory}
-use Rattle.dc_answers.specs.Outside.{File, file, Calls, Gives, Denies, HandsOut, Stops, visit_of, AreTexts, IsFirstUnread}
-use Rattle.dc_cli.specs.Fetched.{IsFetched, IsStopped, IsUnfetched, IsUnreadOf}
+use Rattle.dc_answers.specs.Outside.{File, file, Calls, Denies, HandsOut, Stops, visit_of, AreTexts, IsFirstUnread}
+use Rattle.dc_cli.specs.Fetched.{IsFetched, IsUnfetched, IsUnreadOf}
 
 -- ---- one file
 pub one_fetched : {S : Type 0} (files : S → Option Files) (count : S → ℕ) (call : Calls S) (before after : S) (name : Bytes) (limit : ℕ) (v : Vec ℕ Global)

@@ -1,5 +1,5 @@
 -- From the fault of one text to what is wrong first with all.
-use Rattle.std.proofs.Common.{◌≡◌, ◌≢◌, sym, subst, refl, List, Option, Some}
+use Rattle.std.proofs.Common.{◌≡◌, ◌≢◌, sym, subst, refl, Option, Some}
 use Rattle.dc_syntax.specs.declared.tree.Proc.{Proc}
 use Rattle.dc_syntax.specs.Params.{params_of, HaveSameParams}
 use Rattle.dc_lines.specs.Bytes.{Bytes}
@@ -8,11 +8,10 @@ use Rattle.dc_parse.specs.declared.parse.ParseFault.{ParseFault}
 use Rattle.dc_parse.specs.Answers.{SourceOutcome, ConditionOutcome, IsRefusal}
 use Rattle.dc_answers.specs.declared.refusal.Text.{Text}
 use Rattle.dc_answers.specs.declared.refusal.Text.TheVariants.{New, Old, When}
-use Rattle.dc_answers.specs.declared.refusal.Wrong.{Wrong}
-use Rattle.dc_answers.specs.declared.refusal.Wrong.TheVariants.{Parse, ParametersDiffer}
+use Rattle.dc_answers.specs.declared.refusal.Wrong.TheVariants.{Parse}
 use Rattle.dc_answers.specs.declared.refusal.Refusal.{Refusal}
 use Rattle.dc_answers.specs.declared.refusal.Refusal.TheVariants.{Source, NoMemory}
-use Rattle.dc_answers.specs.Sources.{SaysProgram, SayPair, IsFaultIn, IsConditionFault, is_wrong, new_wrong, old_wrong, differ, when_wrong}
+use Rattle.dc_answers.specs.Sources.{SaysProgram, IsFaultIn, IsConditionFault, new_wrong, old_wrong, when_wrong}
 use Rattle.dc_cli.specs.Texts.{IsRefusalOf, IsFaultOf, IsCasesFault, IsMisread}
 
 -- a fault that is not want of memory, as a refusal

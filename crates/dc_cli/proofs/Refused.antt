@@ -1,5 +1,5 @@
 -- From the refusal of a step to the refusal of the command.
-use Rattle.std.proofs.Common.{◌≡◌, refl, sym, ap, subst, inl, inr, arith, ℕ, ◌≤◌, List, Option}
+use Rattle.std.proofs.Common.{◌≡◌, refl, ap, inl, inr, ℕ, List, Option}
 use Rattle.std.specs.declared.string.String.{String}
 use Rattle.std.specs.declared.alloc.Global.{Global}
 use Rattle.std.specs.Prelude.{Bool, option_map}
@@ -10,8 +10,7 @@ use Rattle.dc_lines.specs.Bytes.{Bytes}
 use Rattle.dc_lp.specs.Meanings.{Meaning}
 use Rattle.dc_cert.specs.declared.certificate.Settings.{Settings}
 use Rattle.dc_cert.specs.declared.certificate.Certificate.{Certificate}
-use Rattle.dc_words.specs.declared.Words.{Words}
-use Rattle.dc_words.specs.declared.Words.TheVariants.{Analyse, Check, Sample}
+use Rattle.dc_words.specs.declared.Words.TheVariants.{Analyse, Check}
 use Rattle.dc_words.specs.Reading.{Reading, for_analyse, for_check, for_sample, reading_of, IsReading}
 use Rattle.dc_session.specs.declared.fault.PastAt.TheVariants.{Pivot, Fold}
 use Rattle.dc_session.specs.declared.fault.AnalyseFault.{AnalyseFault}
@@ -25,10 +24,10 @@ use Rattle.dc_answers.specs.declared.refusal.Refusal.{Refusal}
 use Rattle.dc_answers.specs.declared.refusal.Refusal.TheVariants.{Usage, Unread, BadCertificate, Source, TooLarge, PastPivot, PastFold, Spent, Unwritten, NoMemory}
 use Rattle.dc_answers.specs.Sources.{Say}
 use Rattle.dc_answers.specs.Outside.{File, Visit}
-use Rattle.dc_answers.specs.Ends.{End, Printed, Refused, TextsEnd, misread, understood, InputEnds, stops, shows, input_of, of_analysis, AnalysisEnds, AnalyseEnds, IsWritten, CertificateEnds, of_check, CheckEnds, no_text, fails}
+use Rattle.dc_answers.specs.Ends.{End, Refused, TextsEnd, misread, understood, stops, shows, input_of, of_analysis, AnalysisEnds, CertificateEnds, of_check, CheckEnds, no_text, fails}
 use Rattle.dc_cli.specs.Fetched.{IsFetched, IsUnfetched}
 use Rattle.dc_cli.specs.Texts.{IsMisread, IsNoCertificate}
-use Rattle.dc_cli.specs.Analysed.{IsAnalysed, IsHaltedBy, IsHalted, IsStoppedBy, IsUnanalysed}
+use Rattle.dc_cli.specs.Analysed.{IsAnalysed, IsHalted, IsStoppedBy, IsUnanalysed}
 use Rattle.dc_cli.specs.Steps.{IsRefusedBy, IsRefused, IsInRange, IsRefusedOf, IsRefusedFor}
 
 -- ---- ends

@@ -1,6 +1,5 @@
 -- From what was printed or refused to what is promised.
 use Rattle.std.proofs.Common.{◌≡◌, ◌≢◌, refl, sym, ◌∙◌, ap, subst, inl, inr, arith, lit≤, ℕ, ◌≤◌, ◌<◌, List, [], ◌∷◌, length, take, Option, Some, None}
-use Rattle.std.specs.Prelude.{◌⊎◌}
 use Rattle.std.specs.String.{string_bytes}
 use Rattle.dc_host.specs.Outside.{Files, Rose, IsTextOf, IsAbsent}
 use Rattle.dc_lines.specs.Bytes.{Bytes}
@@ -11,7 +10,7 @@ use Rattle.dc_words.specs.Reading.{Reading, for_analyse, for_check, for_sample, 
 use Rattle.dc_answers.specs.declared.refusal.Refusal.{Refusal}
 use Rattle.dc_answers.specs.declared.refusal.Refusal.TheVariants as r
 use Rattle.dc_answers.specs.Statuses as status
-use Rattle.dc_answers.specs.Lines.{status_of, line_of}
+use Rattle.dc_answers.specs.Lines.{status_of}
 use Rattle.dc_answers.specs.Claims.{claim_status}
 use Rattle.dc_answers.specs.Ends.{Output, output, End, Printed, Refused, files_of, ReadingEnds, Names, Answers, usage, asked}
 use Rattle.dc_answers.specs.Outside.{File, Outside, Visit, Stream, Gains, GainsPart, AreTexts, AreTold, IsMissing, IsFirstUnread}
@@ -19,10 +18,10 @@ use Rattle.dc_answers.specs.Headline.{Means}
 use Rattle.dc_answers.specs.Promise.{AreHandedOut, SaysHeadline, IsAnswered, Prints, IsUnread, IsCut, IsDue, HasCause, Refuses, IsCalm, IsEnd, Completes, FindsMissing}
 use Rattle.dc_answers.proofs.One.{one_list, one_answer}
 use Rattle.dc_answers.proofs.Meanings.{outputs_mean}
-use Rattle.dc_cli.specs.Reports.{IsBuilt, IsReported}
+use Rattle.dc_cli.specs.Reports.{IsReported}
 use Rattle.dc_cli.specs.Fetched.{IsFetched}
 use Rattle.dc_cli.specs.Steps.{IsOutputFor, IsRefusedFor}
-use Rattle.dc_cli.specs.Written.{IsPrinted, IsPart, IsUnprinted, IsEarly}
+use Rattle.dc_cli.specs.Written.{IsPrinted, IsUnprinted, IsEarly}
 
 -- ---- what was printed
 handed_of : (o : Outside) (left : Meaning) (n : ℕ) (bytes : Bytes) → (d : IsOutputFor o.store o.words left n bytes) → AreHandedOut o d.2.texts

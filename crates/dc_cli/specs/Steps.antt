@@ -1,5 +1,5 @@
 -- What the steps of a command come to.
-use Rattle.std.specs.Prelude.{◌≡◌, ◌⊎◌, ℕ, ◌≤◌, List, [], ◌∷◌, false, Option}
+use Rattle.std.specs.Prelude.{◌≡◌, ℕ, ◌≤◌, List, [], false, Option}
 use Rattle.std.specs.String.{string_bytes}
 use Rattle.dc_lines.specs.Bytes.{Bytes}
 use Rattle.dc_lp.specs.Meanings.{Meaning}
@@ -7,7 +7,7 @@ use Rattle.dc_session.specs.Answers.{AreSettings}
 use Rattle.dc_words.specs.Reading.{Reading, for_analyse, for_check, for_sample, takes_words, IsReading}
 use Rattle.dc_answers.specs.declared.refusal.Refusal.{Refusal}
 use Rattle.dc_answers.specs.declared.refusal.Refusal.TheVariants.{Usage, Unread, Unwritten, NoMemory}
-use Rattle.dc_answers.specs.Ends.{Output, output, End, Printed, Refused, files_of, settings_of, ReadingEnds}
+use Rattle.dc_answers.specs.Ends.{output, End, Printed, Refused, files_of, settings_of, ReadingEnds}
 use Rattle.dc_answers.specs.Outside.{File, Visit}
 use Rattle.dc_answers.specs.Promise.{IsLeft}
 use Rattle.dc_cli.specs.Fetched.{IsFetched, IsStopped}

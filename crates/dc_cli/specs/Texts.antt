@@ -6,13 +6,11 @@ use Rattle.dc_affine.specs.declared.atom.Atom.{Atom}
 use Rattle.dc_program.specs.Programs.{IsProgram, IsCondition}
 use Rattle.dc_lines.specs.Bytes.{Bytes}
 use Rattle.dc_lines.specs.Texts.{IsBadLine}
-use Rattle.dc_cert.specs.declared.certificate.Certificate.{Certificate}
 use Rattle.dc_certtext.specs.Limits.{limit, HasText}
 use Rattle.dc_parse.specs.declared.fault.Kind.TheVariants as k
 use Rattle.dc_parse.specs.declared.parse.ParseFault.{ParseFault}
 use Rattle.dc_answers.specs.declared.refusal.Text.{Text}
 use Rattle.dc_answers.specs.declared.refusal.Text.TheVariants.{When}
-use Rattle.dc_answers.specs.declared.refusal.Wrong.{Wrong}
 use Rattle.dc_answers.specs.declared.refusal.Wrong.TheVariants.{Parse}
 use Rattle.dc_answers.specs.declared.refusal.Refusal.{Refusal}
 use Rattle.dc_answers.specs.declared.refusal.Refusal.TheVariants.{Source, BadCertificate, NoMemory}

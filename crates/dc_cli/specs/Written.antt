@@ -1,5 +1,5 @@
 -- What an attempt to print comes to.
-use Rattle.std.specs.Prelude.{◌≡◌, ℕ, List}
+use Rattle.std.specs.Prelude.{ℕ, List}
 use Rattle.dc_lines.specs.Bytes.{Bytes}
 use Rattle.dc_lp.specs.Meanings.{Meaning}
 use Rattle.dc_answers.specs.declared.refusal.Refusal.{Refusal}

@@ -5,6 +5,8 @@
 #[cfg(test)]
 mod commands;
 #[cfg(test)]
+mod real;
+#[cfg(test)]
 mod runs;
 #[cfg(test)]
 mod words;

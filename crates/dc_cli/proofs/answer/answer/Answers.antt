@@ -1,10 +1,8 @@
-use Rattle.std.proofs.Common.{refl, sym, ap, ◌∙◌, subst}
+use Rattle.std.proofs.Common.{refl, sym, ap, ◌∙◌}
 use Rattle.std.specs.Option.{option_map}
 use Rattle.dc_sparse.specs.Meanings.{cross_meaning}
-use Rattle.dc_words.specs.Reading.{for_analyse, for_check, for_sample, reading_of}
+use Rattle.dc_words.specs.Reading.{for_sample, reading_of}
 use Rattle.dc_answers.specs.Outside.{visit_of}
-use Rattle.dc_cli.specs.Analysed.{search_of}
-use Rattle.dc_cli.specs.Steps.{IsInRange}
 use Rattle.dc_cli.proofs.Refused.{analyse_reading, check_reading}
 use Rattle.dc_cli.proofs.Commands.{same_output, same_check, same_refused, sample_output, sample_unput}
 use Rattle.dc_cli.proofs.answer.answer.Goals as goal

@@ -1,7 +1,7 @@
 use Rattle.std.proofs.Common.{map}
 use Rattle.std.specs.String.{string_bytes}
 use Rattle.dc_sparse.specs.Meanings.{cross_meaning}
-use Rattle.dc_answers.specs.Outside.{Outside, outside, visit_of, stream_of}
+use Rattle.dc_answers.specs.Outside.{outside, visit_of, stream_of}
 use Rattle.dc_answers.specs.Promise.{Refuses}
 use Rattle.dc_cli.proofs.Tops.{prints, says_headline, is_answered, not_answered, early, refuses, prints_complete, prints_found, refuses_complete, refuses_found}
 use Rattle.dc_cli.proofs.command.top.Goals as goal
