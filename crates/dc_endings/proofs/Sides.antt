@@ -24,7 +24,6 @@ use Rattle.dc_cert.specs.Ranges.{is_live}
 use Rattle.dc_cert.specs.Vectors.{entry_of}
 use Rattle.dc_entail.specs.declared.answer.Place.{Place}
 use Rattle.dc_entail.specs.declared.answer.Place.TheVariants as place
-use Rattle.dc_greatest.proofs.Ends.{flag_same}
 use Rattle.dc_entail.specs.Asked.{Asked, ask, IsDone, AllDone}
 use Rattle.dc_points.specs.Points.{MeetsAt, IsDead, Entails, EntailsFrom}
 use Rattle.dc_points.specs.Stated.{coefficient_of, sup_problem}
@@ -40,6 +39,7 @@ use Rattle.dc_moves.specs.Cuts.{with_guard}
 use Rattle.dc_moves.proofs.Cuts.{cuts_ask_the_same, cuts_ask_the_same_forms, cuts_say_the_same, cuts_are_atoms, combines-cut, live-cut}
 use Rattle.dc_moves.proofs.Forms.{row_is_light, forms_have_places, forms_are_light, forms_tell_atoms}
 use Rattle.dc_greatest.specs.Parts.{for_live, for_edges}
+use Rattle.dc_greatest.proofs.Ends.{flag_same}
 use Rattle.dc_invariant.specs.Shown.{IsSolutionOf, IsRefutationOf, IsKeep, AreKeeps, IsLine}
 use Rattle.dc_invariant.specs.Keeps as side
 use Rattle.dc_invariant.specs.Keeps.{printed_at, kept_atoms, exit_atoms, AreLive, numbered, atom_at_entry, entry_asked, atom_along, edge_dead, edge_asked, exit_asked, keeps_asked, IsSidePart}

@@ -23,7 +23,7 @@ use Rattle.dc_session.specs.Answers.{IsInput, TellsCertificate}
 use Rattle.dc_acceptance.specs.Laws.{Makes}
 
 -- ---- checks
--- a claim is accepted, or there is a first step that does not hold
+-- a claim is accepted; or a first step does not hold, or a limit is passed
 abbrev pub IsChecked : Proc → Proc → List (List Atom) → Certificate → Type 0
 IsChecked new old cases c =
     ((k : Claim) × Accepts new old cases c k) ⊎ ((f : CheckFault) × (f ≢ NoMemory) × IsFault new old cases c f)

@@ -1,8 +1,8 @@
 //! Laws of the ends of an analysis and of a check. Each function has no code: what it ensures is the law.
 ghost use Rattle.dc_endings.specs.Laws.{EachEnds, EachIsChecked, EachIsMade, EachMadeEnds};
 
-/// A check of a certificate within its ranges has an answer, want of memory aside: it is accepted, or there is a first step that does not
-/// hold.
+/// A check of a certificate within its ranges has an answer, want of memory aside: it is accepted, or a first step does not hold, or a limit is
+/// passed.
 pub fn checks_end()
     ensures { EachIsChecked }
 {}
