@@ -209,8 +209,8 @@ skip; skip; skip; skip; skip; skip; skip; skip; skip; skip; skip; skip; skip; sk
 skip; skip; skip; skip; skip; skip; skip; skip; skip; skip; skip; skip; skip; skip; skip; skip;
 }";
 
-/// The problems of the condition and of the entry take one pivot each, and that of the first edge two. Counts of both sides come before
-/// all problems, new's first.
+/// The problems of the condition and of the entry take one pivot each, and that of the first edge two; the main problem takes 24, and no
+/// other one so many. Counts of both sides come before all problems, new's first.
 #[test]
 fn the_first_refusal_is_told(rt: HostRuntime) -> Result<(), Fail> {
     let alloc = rt.alloc();
@@ -221,6 +221,8 @@ fn the_first_refusal_is_told(rt: HostRuntime) -> Result<(), Fail> {
     let huge = "proc f(n) { var x, y; x = 2147483647*n; y = 2147483647*x; tick 2147483647*y*y; }";
     let table = [
         (within(1), Answer::Budget(edge)),
+        (within(23), Answer::Budget(Place::Main)),
+        (within(24), Answer::Threshold(100, 1)),
         (
             row_of(huge, SKIP, "n == 2147483647", 2, 2),
             Answer::PastPivot,

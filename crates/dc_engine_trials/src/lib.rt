@@ -4,6 +4,8 @@
 #[cfg(test)]
 mod answers;
 #[cfg(test)]
+mod loads;
+#[cfg(test)]
 mod rows;
 #[cfg(test)]
 mod whole;

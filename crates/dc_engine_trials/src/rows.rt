@@ -1,12 +1,16 @@
 //! What is analysed, and how.
 ghost use Rattle.std.specs.Prelude.{IfOk};
-ghost use Rattle.dc_session.specs.Answers.{AreSettings};
+ghost use Rattle.dc_session.specs.Answers.{AreSettings, IsInput};
+ghost use Rattle.dc_engine.specs.Inputs.{input};
 
+use dc_affine::Atom;
 use dc_cert::{Certificate, Settings};
-use dc_engine::analyse;
+use dc_engine::{analyse, analyse_on};
+use dc_lp::Tableau;
 use dc_parse::{parse_proc, parse_when};
 use dc_session::AnalyseFault;
-use dc_syntax::same_params;
+use dc_syntax::{Proc, same_params};
+use sqlite_items::Items;
 use std::alloc::Global;
 use std::test::Fail;
 
@@ -68,8 +72,19 @@ fn settings(row: &Row) -> Result<Settings, Fail>
     })
 }
 
-/// What an analysis of a row answers.
-pub fn analysed(alloc: Global, row: &Row) -> Result<Result<Certificate, AnalyseFault>, Fail> {
+/// Two programs, the cases of a condition, and settings.
+#[derive(Drop)]
+pub struct Input {
+    pub new: Proc,
+    pub old: Proc,
+    pub cases: Items<Items<Atom>>,
+    pub settings: Settings,
+}
+
+/// What a row says.
+fn read(alloc: Global, row: &Row) -> Result<Input, Fail>
+    ensures { IfOk result (λ i. IsInput (input i.new i.old i.cases i.settings)) }
+{
     let Ok(new) = parse_proc(alloc, row.new.as_bytes()) else {
         return Err(Fail::from("new"));
     };
@@ -83,5 +98,33 @@ pub fn analysed(alloc: Global, row: &Row) -> Result<Result<Certificate, AnalyseF
         return Err(Fail::from("when"));
     };
     let settings = settings(row)?;
-    Ok(analyse(alloc, &new, &old, cases.as_slice(), &settings))
+    Ok(Input {
+        new,
+        old,
+        cases,
+        settings,
+    })
+}
+
+/// What an analysis of a row answers.
+pub fn analysed(alloc: Global, row: &Row) -> Result<Result<Certificate, AnalyseFault>, Fail> {
+    let i = read(alloc, row)?;
+    Ok(analyse(alloc, &i.new, &i.old, i.cases.as_slice(), &i.settings))
+}
+
+/// What it answers on a tableau.
+pub fn run_on<T: Tableau>(
+    alloc: Global,
+    row: &Row,
+    tableau: &mut T,
+) -> Result<Result<Certificate, AnalyseFault>, Fail> {
+    let i = read(alloc, row)?;
+    Ok(analyse_on(
+        alloc,
+        &i.new,
+        &i.old,
+        i.cases.as_slice(),
+        &i.settings,
+        tableau,
+    ))
 }

@@ -1,0 +1,5 @@
+pub mod Prices
+pub mod Folds
+pub mod Certified
+pub mod Least
+pub mod Accepted
