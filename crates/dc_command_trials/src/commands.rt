@@ -23,6 +23,20 @@ const CHOICE: &str = "proc f(n) { if (*) { tick 5; } else { tick 1; } }";
 
 const HALF: &str = "proc f(n) { var x; x = any(0, n); assume (2*x <= n); tick x; }";
 
+const LOOP_I: &str = "proc f(n) {\nvar i;\nwhile (i < n) {\ntick i;\ni = i + 1;\n}\n}\n";
+
+const CHOSEN: &str = "proc f(n) { var x; x = any(0, n); tick x; }";
+
+const FOREVER: &str = "proc f(n) { while (true) { skip; } }";
+
+const SQUARE: &str =
+    "proc f(n) { var i, j; while (i < n) { j = 0; while (j < n) { tick 1; j = j + 1; } i = i + 1; } }";
+
+const TRIANGLE: &str =
+    "proc f(n) { var i, j; while (i < n) { j = 0; while (j < i) { tick 1; j = j + 1; } i = i + 1; } }";
+
+const TEN: &str = "0 <= n && n <= 10";
+
 const HUNDRED: &str = "0 <= n && n <= 100";
 
 /// The words of an analysis of both files under a condition, with the degree and the products.
@@ -44,78 +58,106 @@ fn begins(bytes: &[u8], text: &str) -> bool {
     bytes.starts_with(text.as_bytes())
 }
 
+/// Two sources, a condition, degree and products, and then the status and the lines with which the output begins.
+type Claim = (
+    &'static str,
+    &'static str,
+    &'static str,
+    &'static str,
+    &'static str,
+    u8,
+    &'static str,
+);
+
+const CLAIMS: [Claim; 15] = [
+    (
+        LOOP_2,
+        LOOP_1,
+        HUNDRED,
+        "1",
+        "1",
+        0,
+        "threshold 100\nwhole 100\ndiffcost 2\n",
+    ),
+    (LOOP_2, LOOP_1, "n >= 0", "1", "1", 1, "none\ndiffcost 2\n"),
+    (LOOP_2, LOOP_2, "n >= 0", "1", "1", 0, "threshold 0\n"),
+    (
+        LOOP_1,
+        LOOP_2,
+        "5 <= n && n <= 100",
+        "1",
+        "1",
+        0,
+        "threshold -5\nwhole -5\n",
+    ),
+    (
+        CHOICE,
+        "proc f(n) { tick 2; }",
+        "true",
+        "2",
+        "2",
+        0,
+        "threshold 3\n",
+    ),
+    (
+        "proc f(n) { tick 2; }",
+        CHOICE,
+        "true",
+        "2",
+        "2",
+        0,
+        "threshold 1\n",
+    ),
+    (LOOP_I, LOOP_1, TEN, "2", "2", 0, "threshold 35\n"),
+    (LOOP_I, LOOP_1, TEN, "1", "2", 0, "threshold 80\n"),
+    (
+        FOREVER,
+        "proc f(n) { tick 1; }",
+        "true",
+        "2",
+        "2",
+        2,
+        "vacuous\n",
+    ),
+    (LOOP_2, LOOP_1, "n >= 1 && n <= 0", "1", "1", 2, "vacuous\n"),
+    (
+        CHOSEN,
+        SKIP,
+        "0 <= n && n <= 7",
+        "1",
+        "1",
+        0,
+        "threshold 7\n",
+    ),
+    (
+        HALF,
+        SKIP,
+        "0 <= n && n <= 7",
+        "1",
+        "1",
+        0,
+        "threshold 7/2\nwhole 3\n",
+    ),
+    (SQUARE, TRIANGLE, TEN, "2", "2", 0, "threshold 55\n"),
+    (LOOP_2, LOOP_1, "n != 3", "1", "1", 1, "none\n"),
+    (
+        LOOP_2,
+        LOOP_1,
+        "0 <= n && n <= 3 || n == 7",
+        "1",
+        "1",
+        0,
+        "threshold 7\n",
+    ),
+];
+
 #[test]
 fn analyses_begin_with_their_claim(rt: HostRuntime) -> Result<(), AllocError> {
     let alloc = rt.alloc();
-    for (new, old, words, status, first) in [
-        (
-            LOOP_2,
-            LOOP_1,
-            analyse(HUNDRED, "1", "1"),
-            0,
-            "threshold 100\nwhole 100\ndiffcost 2\n",
-        ),
-        (
-            LOOP_2,
-            LOOP_1,
-            analyse("n >= 0", "1", "1"),
-            1,
-            "none\ndiffcost 2\n",
-        ),
-        (
-            LOOP_1,
-            LOOP_2,
-            analyse("5 <= n && n <= 100", "1", "1"),
-            0,
-            "threshold -5\nwhole -5\n",
-        ),
-        (
-            CHOICE,
-            "proc f(n) { tick 2; }",
-            analyse("true", "2", "2"),
-            0,
-            "threshold 3\n",
-        ),
-        (
-            "proc f(n) { tick 2; }",
-            CHOICE,
-            analyse("true", "2", "2"),
-            0,
-            "threshold 1\n",
-        ),
-        (
-            "proc f(n) { while (true) { skip; } }",
-            "proc f(n) { tick 1; }",
-            analyse("true", "2", "2"),
-            2,
-            "vacuous\n",
-        ),
-        (
-            LOOP_2,
-            LOOP_1,
-            analyse("n >= 1 && n <= 0", "1", "1"),
-            2,
-            "vacuous\n",
-        ),
-        (
-            HALF,
-            SKIP,
-            analyse("0 <= n && n <= 7", "1", "1"),
-            0,
-            "threshold 7/2\nwhole 3\n",
-        ),
-        (LOOP_2, LOOP_1, analyse("n != 3", "1", "1"), 1, "none\n"),
-        (
-            LOOP_2,
-            LOOP_1,
-            analyse("0 <= n && n <= 3 || n == 7", "1", "1"),
-            0,
-            "threshold 7\n",
-        ),
-    ] {
+    for (new, old, when, degree, products, status, first) in CLAIMS.iter() {
         let mut store = sources(alloc, new, old)?;
-        let ended = run(alloc, &words, &mut store)?;
-        assert_eq!(rt; ended.status, status, "at {first}");
+        let ended = run(alloc, &analyse(when, degree, products), &mut store)?;
+        assert_eq!(rt; ended.status, *status, "at {first}");
         assert!(rt; begins(ended.out.written(), first));
         assert!(rt; ended.err.written().is_empty());
     }
