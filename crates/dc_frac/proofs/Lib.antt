@@ -9,3 +9,4 @@ pub mod Orders
 pub mod PairLaws
 pub mod ValueLaws
 pub mod ZeroSums
+pub mod SmallSizes

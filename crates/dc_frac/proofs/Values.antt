@@ -87,10 +87,10 @@ num_zero f e = left_zero f.num f.den (same_ratio (fraction f) (fraction_of (pos 
     left_zero n d e = omega (arith, ints)
 
 -- y is the inverse of x where their product is 1
-inverse_is : (x y : ℚ) → is_zero x ≡ false → x *ℚ y ≡ of_ℤ (pos 1) → y ≡ inverse x
+pub inverse_is : (x y : ℚ) → is_zero x ≡ false → x *ℚ y ≡ of_ℤ (pos 1) → y ≡ inverse x
 inverse_is x y n e = inverse_unique x y (inverse x) e (*ℚ-inverse x (eq_ℚ_false x (of_ℤ (pos 0)) n))
 
-product_one : (p q : Fraction) → (p.num *ℤ q.num) ≡ (p.den *ℤ q.den) → ratio p *ℚ ratio q ≡ of_ℤ (pos 1)
+pub product_one : (p q : Fraction) → (p.num *ℤ q.num) ≡ (p.den *ℤ q.den) → ratio p *ℚ ratio q ≡ of_ℤ (pos 1)
 product_one p q e = ratio-mul p q ∙ ratio_same _ (fraction_of (pos 1)) (one_right (p.num *ℤ q.num) (p.den *ℤ q.den) e) ∙ sym (of_ℤ_is (pos 1))
   where
     one_right : (n d : ℤ) → n ≡ d → n *ℤ pos 1 ≡ pos 1 *ℤ d

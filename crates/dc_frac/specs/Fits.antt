@@ -1,7 +1,7 @@
 -- Which sums, differences, products and quotients fit 128 bits, as tests on rational numbers.
-use Rattle.std.specs.Prelude.{◌<◌, ◌^◌, ℤ, ◌+ℤ◌, ◌*ℤ◌, unsigned_abs, int_div, Bool, ◌&&◌, nat_lt}
+use Rattle.std.specs.Prelude.{◌≡◌, ℕ, ◌<◌, ◌^◌, ℤ, ◌+ℤ◌, ◌*ℤ◌, unsigned_abs, int_div, Bool, ◌&&◌, nat_lt}
 use Rattle.dc_math.specs.Quotients.{gcd_ℤ}
-use Rattle.dc_math.specs.Rational.{ℚ, Fraction, ◌*ℚ◌, neg_ℚ}
+use Rattle.dc_math.specs.Rational.{ℚ, Fraction, ratio, ◌*ℚ◌, neg_ℚ}
 use Rattle.dc_math.specs.Inverse.{inverse}
 use Rattle.dc_math.specs.Lowest.{lowest}
 
@@ -49,3 +49,10 @@ sum_fits x y = parts_fit (lowest x) (lowest y)
 
 abbrev pub difference_fits : ℚ → ℚ → Bool
 difference_fits x y = sum_fits x (neg_ℚ y)
+
+-- the number is that of a pair, reduced or not, whose parts are below 2^n in size
+pub record IsWithin (n : ℕ) (x : ℚ) : Type 0 where
+  pub pair : Fraction
+  pub is : ratio pair ≡ x
+  pub num : unsigned_abs pair.num < 2 ^ n
+  pub den : unsigned_abs pair.den < 2 ^ n

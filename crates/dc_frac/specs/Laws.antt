@@ -1,14 +1,15 @@
 -- Sums, products and order of pairs of whole numbers (n, d) with d at least 1, which need not be
 -- reduced. (a, b) and (c, d) have the sum (a * d + c * b, b * d) and the product (a * c, b * d); they
 -- are equal where a * d = c * b, and the first is at most the second where a * d <= c * b.
-use Rattle.std.specs.Prelude.{◌≡◌, ◌⊎◌, true, ℤ, pos, ◌+ℤ◌, ◌≤ℤ◌, unsigned_abs}
+use Rattle.std.specs.Prelude.{◌≡◌, ◌⊎◌, true, ℕ, ◌+◌, ◌<◌, ◌≤◌, ◌^◌, ℤ, pos, ◌+ℤ◌, ◌*ℤ◌, ◌≤ℤ◌, unsigned_abs}
 use Rattle.std.specs.Int.{IsGcd}
 use Rattle.dc_math.specs.Quotients.{gcd_ℤ}
-use Rattle.dc_math.specs.Rational.{ℚ, Fraction, IsSameFraction, IsAtMost, fraction_add, fraction_mul, fraction_neg, fraction_of, ratio, of_ℤ, ◌+ℚ◌, ◌*ℚ◌, ◌≤ℚ◌, ◌<ℚ◌}
+use Rattle.dc_math.specs.Rational.{ℚ, Fraction, IsSameFraction, IsAtMost, fraction_add, fraction_mul, fraction_neg, fraction_of, ratio, of_ℤ, ◌+ℚ◌, ◌*ℚ◌, neg_ℚ, ◌≤ℚ◌, ◌<ℚ◌}
+use Rattle.dc_math.specs.Inverse.{inverse, ◌/ℚ◌}
 use Rattle.dc_math.specs.Lowest.{IsReduced, lowest}
 use Rattle.dc_math.specs.Floor.{floor}
 use Rattle.dc_frac.specs.declared.Frac.{Frac}
-use Rattle.dc_frac.specs.Fits.{IsSmall, fits, sum_fits, difference_fits}
+use Rattle.dc_frac.specs.Fits.{IsSmall, fits, product_fits, quotient_fits, sum_fits, difference_fits, IsWithin}
 use Rattle.dc_frac.specs.Value.{fraction, value}
 
 -- equality of pairs is one, and equal pairs have equal sums and products, and one order
@@ -82,3 +83,37 @@ pub record ZeroSums : Type 0 where
   pub minus_zero : (x : ℚ) → difference_fits x (of_ℤ (pos 0)) ≡ fits x
   pub from_zero : (x : ℚ) → difference_fits (of_ℤ (pos 0)) x ≡ fits x
   pub fraction : (f : Frac) → IsSmall f.den → fits (value f) ≡ true
+
+-- lowest terms are no larger than the parts of any pair of the number, so where parts are small,
+-- products, quotients, sums and differences fit
+pub record SmallNumbers : Type 0 where
+  pub whole : (n : ℕ) (z : ℤ) → 1 ≤ n → unsigned_abs z < 2 ^ n → IsWithin n (of_ℤ z)
+  pub ratio : (n : ℕ) (z d : ℤ) → pos 1 ≤ℤ d → unsigned_abs z < 2 ^ n → unsigned_abs d < 2 ^ n
+      → IsWithin n (of_ℤ z /ℚ of_ℤ d)
+  pub lowest_num : (n : ℕ) (x : ℚ) → IsWithin n x → unsigned_abs (lowest x).num < 2 ^ n
+  pub lowest_den : (n : ℕ) (x : ℚ) → IsWithin n x → unsigned_abs (lowest x).den < 2 ^ n
+  pub fit : (n : ℕ) (x : ℚ) → IsWithin n x → n ≤ 127 → fits x ≡ true
+  -- the parts of the answers
+  pub negation : (n : ℕ) (x : ℚ) → IsWithin n x → IsWithin n (neg_ℚ x)
+  pub inverse : (n : ℕ) (x : ℚ) → ¬ (x ≡ of_ℤ (pos 0)) → IsWithin n x → IsWithin n (inverse x)
+  pub product : (m n : ℕ) (x y : ℚ) → IsWithin m x → IsWithin n y → IsWithin (m + n) (x *ℚ y)
+  pub quotient : (m n : ℕ) (x y : ℚ) → ¬ (y ≡ of_ℤ (pos 0)) → IsWithin m x → IsWithin n y
+      → IsWithin (m + n) (x /ℚ y)
+  -- the answers fit
+  pub product_fit : (m n : ℕ) (x y : ℚ) → IsWithin m x → IsWithin n y → m + n ≤ 127
+      → product_fits x y ≡ true
+  pub quotient_fit : (m n : ℕ) (x y : ℚ) → ¬ (y ≡ of_ℤ (pos 0)) → IsWithin m x → IsWithin n y
+      → m + n ≤ 127 → quotient_fits x y ≡ true
+  pub sum_fit : (m n : ℕ) (x y : ℚ) → IsWithin m x → IsWithin n y → m + n ≤ 126
+      → sum_fits x y ≡ true
+  pub difference_fit : (m n : ℕ) (x y : ℚ) → IsWithin m x → IsWithin n y → m + n ≤ 126
+      → difference_fits x y ≡ true
+  -- a step of a pivot: a product of two numbers from a third
+  pub step_fit : (x y z : ℚ) → IsWithin 41 x → IsWithin 41 y → IsWithin 41 z
+      → difference_fits z (x *ℚ y) ≡ true
+  -- whole numbers
+  pub whole_fit : (z : ℤ) → unsigned_abs z < 2 ^ 127 → fits (of_ℤ z) ≡ true
+  pub whole_product : (z w : ℤ) → unsigned_abs (z *ℤ w) < 2 ^ 127
+      → product_fits (of_ℤ z) (of_ℤ w) ≡ true
+  pub whole_sum : (z w : ℤ) → unsigned_abs z < 2 ^ 126 → unsigned_abs w < 2 ^ 126
+      → sum_fits (of_ℤ z) (of_ℤ w) ≡ true

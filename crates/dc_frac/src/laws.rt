@@ -1,7 +1,7 @@
 //! Laws of pairs of whole numbers that need not be reduced, and of what fits. Each function has no code:
 //! what it ensures is the law.
 
-ghost use Rattle.dc_frac.specs.Laws.{Equality, Sums, Products, Order, Numbers, LowestTerms, Floors, CommonDivisors, ZeroSums};
+ghost use Rattle.dc_frac.specs.Laws.{Equality, Sums, Products, Order, Numbers, LowestTerms, Floors, CommonDivisors, ZeroSums, SmallNumbers};
 
 /// Equality of pairs is one, and sums, products and order go by it.
 pub fn equality()
@@ -46,4 +46,10 @@ pub fn common_divisors()
 /// A sum or a difference with 0 fits exactly where the other number does, as each fraction does.
 pub fn sums_with_zero()
     ensures { ZeroSums }
+{}
+
+/// Lowest terms are no larger than the parts of any pair of their number: where parts are small, reduced or not,
+/// products, quotients, sums and differences fit.
+pub fn small_numbers()
+    ensures { SmallNumbers }
 {}
