@@ -16,11 +16,11 @@ use Rattle.dc_math.specs.Tests.{eq_ℚ, eq_ℚ-true, eq_ℚ_true}
 use Rattle.dc_math.specs.Inverse.{inverse, *ℚ-inverse}
 use Rattle.dc_frac.specs.Fits.{IsSmall, is_small, fits, product_fits, quotient_fits, difference_fits}
 use Rattle.dc_frac.proofs.ShortWays.{gcd_nat_one}
+use Rattle.dc_frac.proofs.FitLaws.{sum-fits}
 use Rattle.dc_lp.specs.Linear.{Linear}
 use Rattle.dc_lp.specs.Tables as tables
 use Rattle.dc_lp.specs.Tables.{Table, made}
 use Rattle.dc_lp.specs.Meanings.{all_below, at, width, height, divided, pivoted, is_zero, division_fits, reduction_fits, pivot_fits}
-use Rattle.dc_lp.proofs.Zeros.{sum-fits}
 use Rattle.dc_pivots.specs.Runs.{State, run, after, due_at}
 use Rattle.dc_pivots.specs.declared.Due.{Due}
 use Rattle.dc_pivots.specs.declared.Due.TheVariants.{Pivot, End}

@@ -9,7 +9,7 @@ use Rattle.dc_math.specs.Rational.{ℚ, Fraction, fraction_of, fraction_neg, of_
 use Rattle.dc_math.specs.Lowest.{lowest, ratio-lowest, lowest_reduced, lowest-of_reduced}
 use Rattle.dc_frac.specs.Fits.{IsSmall, is_small, fits, difference_fits}
 use Rattle.dc_frac.proofs.ShortWays.{gcd_nat_one}
-use Rattle.dc_lp.proofs.Zeros.{sum-fits}
+use Rattle.dc_frac.proofs.FitLaws.{sum-fits}
 use Rattle.std.specs.Prelude.{◌^◌}
 use Rattle.std.proofs.lemmas.Bool.{ltb-false, and_from}
 use Rattle.dc_frac.specs.declared.Frac.{Frac}

@@ -1,18 +1,18 @@
 -- The tests on values say whether the parts that the code computes fit, and the values are right.
-use Rattle.std.specs.Prelude.{◌≡◌, ℤ, ◌*ℤ◌, int_div, true, false, ◌&&◌}
+use Rattle.std.specs.Prelude.{◌≡◌, ◌≤◌, ℤ, ◌*ℤ◌, unsigned_abs, int_div, true, false, ◌&&◌}
 use Rattle.std.proofs.Common.{sym, ◌∙◌, ap, ap₂, arith, lt_of_le_of_lt}
 use Rattle.std.proofs.lemmas.Bool.{and_from, and_parts, false_from_ne_true}
 use Rattle.std.proofs.lemmas.Grind.{common_steps}
 use Rattle.dc_math.specs.Quotients.{gcd_ℤ}
-use Rattle.dc_math.specs.Rational.{Fraction, ratio, ratio_same, ratio-add, ratio-mul, ◌+ℚ◌, ◌*ℚ◌}
-use Rattle.dc_math.specs.Lowest.{lowest, lowest-of_reduced}
+use Rattle.dc_math.specs.Rational.{ℚ, Fraction, ratio, ratio_same, ratio-add, ratio-mul, ◌+ℚ◌, ◌*ℚ◌}
+use Rattle.dc_math.specs.Lowest.{lowest, ratio-lowest, lowest_reduced, lowest-of_reduced}
 use Rattle.dc_frac.specs.declared.Frac.{Frac}
 use Rattle.dc_frac.specs.Fits.{IsSmall, is_small, fits, parts_fit, rule_fits, sum_fits, sum_total, sum_num, sum_den, product_fits}
 use Rattle.dc_frac.specs.Parts.{SumFits, ProductFits, product_num, product_den}
 use Rattle.dc_frac.specs.Value.{fraction, value}
 use Rattle.dc_frac.proofs.ValueLaws.{lowest-value}
 use Rattle.dc_frac.proofs.Values.{Parts}
-use Rattle.dc_frac.proofs.SumLaws.{sum_parts}
+use Rattle.dc_frac.proofs.SumLaws.{SumParts, sum_parts}
 use Rattle.dc_frac.proofs.ProductLaws.{product_parts}
 
 -- ---- tests
@@ -43,6 +43,26 @@ sum_true f g h = sum_fits-value f g ∙ rule_true _ _ _ _ _ h
 
 pub sum_false : (f g : Frac) → ¬ (SumFits f.num f.den g.num g.den (gcd_ℤ f.den g.den)) → sum_fits (value f) (value g) ≡ false
 sum_false f g n = false_from_ne_true _ (λ e. n (true_rule _ _ _ _ _ (sym (sum_fits-value f g) ∙ e)))
+
+-- ---- a sum that exists
+smaller : (n w : ℤ) → unsigned_abs n ≤ unsigned_abs w → is_small w ≡ true → is_small n ≡ true
+smaller n w l h = small_true n (lt_of_le_of_lt l (true_small w h))
+
+pub sum-fits : (x y : ℚ) → sum_fits x y ≡ true → fits (x +ℚ y) ≡ true
+unfolding sum_fits fits
+sum-fits x y h =
+    let p = lowest x in
+    let q = lowest y in
+    let g = gcd_ℤ p.den q.den in
+    let s : SumParts p.num p.den q.num q.den (sum_num p.num p.den q.num q.den g) (sum_den p.num p.den q.num q.den g) = sum_parts p.num p.den q.num q.den p.den_positive q.den_positive (lowest_reduced x) (lowest_reduced y) in
+    let r : Fraction = record { num = sum_num p.num p.den q.num q.den g; den = sum_den p.num p.den q.num q.den g; den_positive = s.positive } in
+    let is : x +ℚ y ≡ ratio r = ap₂ ◌+ℚ◌ (sym (ratio-lowest x)) (sym (ratio-lowest y)) ∙ ratio-add p q ∙ sym (ratio_same r _ s.equal) in
+    let low : lowest (x +ℚ y) ≡ r = ap lowest is ∙ lowest-of_reduced r s.reduced in
+    let w = sum_total p.num p.den q.num q.den g in
+    let both = is_small (p.num *ℤ int_div q.den g) && is_small (q.num *ℤ int_div p.den g) in
+    let a = and_parts (both && is_small w) (is_small r.den) h in
+    let b = and_parts both (is_small w) a.0 in
+    ap (λ (f : Fraction). is_small f.num && is_small f.den) low ∙ and_from (is_small r.num) (is_small r.den) (smaller r.num w s.size b.1) a.1
 
 -- ---- the parts of a sum
 pub sum_is : (f g : Frac) → SumFits f.num f.den g.num g.den (gcd_ℤ f.den g.den) → Parts (sum_num f.num f.den g.num g.den (gcd_ℤ f.den g.den)) (sum_den f.num f.den g.num g.den (gcd_ℤ f.den g.den)) (value f +ℚ value g)

@@ -1,4 +1,4 @@
--- A sum or a difference with 0 fits where the other number does.
+-- 0 fits, and a sum or a difference with 0 fits where the other number does.
 use Rattle.std.specs.Prelude.{◌≡◌, ℤ, pos, ◌+ℤ◌, ◌*ℤ◌, neg_ℤ, unsigned_abs, int_div, Bool, true, false, ◌&&◌, nat_lt, ◌^◌}
 use Rattle.std.proofs.Common.{refl, sym, ◌∙◌, ap, ap₂, arith}
 use Rattle.std.proofs.lemmas.Bool.{and_from}
@@ -6,11 +6,11 @@ use Rattle.std.proofs.lemmas.Int.{ints}
 use Rattle.std.proofs.Math.Nat.{eq-one_of_dvd-one}
 use Rattle.dc_math.specs.Gcd.{gcd, gcd_is}
 use Rattle.dc_math.specs.Quotients.{gcd_ℤ}
-use Rattle.dc_math.specs.Rational.{ℚ, Fraction, fraction_of, fraction_neg, ratio-neg, of_ℤ, of_ℤ_is, neg_ℚ}
+use Rattle.dc_math.specs.Rational.{ℚ, Fraction, fraction_of, fraction_neg, ratio-neg, of_ℤ, of_ℤ_is, neg_ℚ, ◌*ℚ◌}
 use Rattle.dc_math.specs.Order.{of_ℤ-neg_ℤ}
 use Rattle.dc_math.specs.Lowest.{lowest, ratio-lowest, lowest_reduced, lowest-of_reduced}
 use Rattle.dc_frac.specs.declared.Frac.{Frac}
-use Rattle.dc_frac.specs.Fits.{IsSmall, is_small, fits, parts_fit, rule_fits, sum_fits, sum_total, sum_den, difference_fits}
+use Rattle.dc_frac.specs.Fits.{IsSmall, is_small, fits, product_fits, parts_fit, rule_fits, sum_fits, sum_total, sum_den, difference_fits}
 use Rattle.dc_frac.specs.Value.{value}
 use Rattle.dc_frac.proofs.ValueLaws.{lowest-value}
 use Rattle.dc_frac.proofs.FitLaws.{small_true}
@@ -103,6 +103,13 @@ left_zero x =
     ap (λ p. parts_fit p (lowest x)) lowest_zero
     ∙ ap (rule_fits (pos 0) (pos 1) (lowest x).num (lowest x).den) (one_gcd (lowest x).den)
     ∙ left_parts (lowest x).num (lowest x).den
+
+pub fits-zero : fits (of_ℤ (pos 0)) ≡ true
+unfolding fits
+fits-zero = rw lowest_zero refl
+
+pub product_fits-zero : (x y : ℚ) → x *ℚ y ≡ of_ℤ (pos 0) → product_fits x y ≡ true
+product_fits-zero x y e = ap fits e ∙ fits-zero
 
 -- ---- differences
 neg_size : (z : ℤ) → unsigned_abs (neg_ℤ z) ≡ unsigned_abs z

@@ -7,10 +7,10 @@ use Rattle.dc_math.specs.Rational.{ℚ, ◌+ℚ◌, ◌*ℚ◌, of_ℤ, zero-*�
 use Rattle.dc_math.specs.RationalField.{+ℚ-zero}
 use Rattle.dc_math.specs.Sums.{sum_ℚ, sum_ℚ_none, sum_ℚ_last}
 use Rattle.dc_frac.specs.Fits.{fits, product_fits, sum_fits}
-use Rattle.dc_frac.proofs.ZeroSums.{right_zero}
+use Rattle.dc_frac.proofs.FitLaws.{sum-fits}
+use Rattle.dc_frac.proofs.ZeroSums.{right_zero, fits-zero, product_fits-zero}
 use Rattle.dc_lp.specs.Folds.{added, folded, folded_over, checked}
 use Rattle.dc_lp.specs.Laws.{LeavesOut, SumsFit}
-use Rattle.dc_lp.proofs.Zeros.{fits-zero, product_fits-zero, sum-fits}
 
 injective : (s t : ℚ) → Some s ≡ Some t → s ≡ t
 injective s t e = cc

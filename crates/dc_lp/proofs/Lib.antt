@@ -1,6 +1,5 @@
 pub mod Firsts
 pub mod Belows
-pub mod Zeros
 pub mod Columns
 pub mod FoldSums
 pub mod FieldTests

@@ -1,17 +1,15 @@
 -- The outcomes of a session give one certificate.
-use Rattle.std.specs.Prelude.{◌≡◌, ℕ, zero, suc, ◌<◌, Bool, List, [], ◌∷◌, length, ℤ}
-use Rattle.std.proofs.Common.{refl, sym, ◌∙◌, ap, ap₂, subst, arith}
+use Rattle.std.specs.Prelude.{◌≡◌, ℕ, Bool, List, [], ◌∷◌, ℤ}
+use Rattle.std.proofs.Common.{refl, sym, ◌∙◌, ap, ap₂, subst}
 use Rattle.dc_math.specs.Rational.{ℚ}
 use Rattle.dc_frac.specs.declared.Frac.{Frac}
-use Rattle.dc_frac.specs.Value.{value}
+use Rattle.dc_frac.proofs.ValueLaws.{same_frac}
 use Rattle.dc_affine.specs.declared.atom.Atom.{Atom}
-use Rattle.dc_lp.specs.Folds.{numbers}
 use Rattle.dc_lp.specs.Linear.{Linear}
 use Rattle.dc_lp.specs.Tables.{Table}
 use Rattle.dc_pivots.specs.declared.Ending.{Ending}
 use Rattle.dc_pivots.specs.declared.Ending.TheVariants.{Optimal, Infeasible, Unbounded}
 use Rattle.dc_simplex.specs.Limits.{Answer, Done}
-use Rattle.dc_simplex.specs.Outcomes.{IsVector}
 use Rattle.dc_simplex.proofs.OneAnswer.{has_one_answer}
 use Rattle.dc_simplex.proofs.OneOutcome.{same_vector}
 use Rattle.dc_cert.specs.declared.sparse.Item.{Item}
@@ -32,22 +30,6 @@ use Rattle.dc_session.specs.Made.{AreItemsOf, IsThreshold, IsVacuous, IsBodyOf, 
 use Rattle.dc_session.specs.Laws.{OneMade}
 
 -- ---- fractions and vectors
-one_number : (f : Frac) → IsVector 1 (λ k. value f) (f ∷ [])
-one_number f = record { long = refl; each = each }
-  where
-    each : (k : ℕ) → k < 1 → numbers (f ∷ []) k ≡ value f
-    each zero l = refl
-    each (suc k) l = absurd (omega (arith, l))
-
-first_or : Frac → List Frac → Frac
-first_or f [] = f
-first_or f (x ∷ xs) = x
-
-same_frac : (f g : Frac) → value f ≡ value g → f ≡ g
-unfolding first_or
-same_frac f g e =
-    ap (first_or f) (same_vector 1 (λ k. value f) (f ∷ []) (g ∷ []) (one_number f) (subst (λ v. IsVector 1 (λ k. v) (g ∷ [])) (sym e) (one_number g)))
-
 sparse_of : List Item → Sparse
 sparse_of is = record { items = is }
 

@@ -1,14 +1,10 @@
 -- A problem has one outcome at most.
 use Rattle.std.proofs.Common.{◌≡◌, ℕ, zero, suc, ◌+◌, ◌<◌, List, [], ◌∷◌, length, map, Some, refl, sym, ◌∙◌, ap, ap₂, subst, arith, inl, inr}
-use Rattle.std.specs.Prelude.{ℤ, pos, ◌≤ℤ◌, ◌^◌, unsigned_abs}
-use Rattle.std.proofs.Props.{props}
-use mathlib.Core.HLevel.{Σ_prop_path}
-use Rattle.dc_math.specs.Gcd.{gcd}
 use Rattle.dc_math.specs.Rational.{ℚ}
 use Rattle.dc_math.specs.RationalField.{rationals}
 use Rattle.dc_frac.specs.declared.Frac.{Frac}
 use Rattle.dc_frac.specs.Value.{value}
-use Rattle.dc_frac.proofs.ValueLaws.{value_num, value_den}
+use Rattle.dc_frac.proofs.ValueLaws.{same_frac}
 use Rattle.dc_lp.specs.Folds.{numbers}
 use Rattle.dc_lp.specs.Linear.{Linear}
 use Rattle.dc_lp.specs.Tables.{Table}
@@ -23,22 +19,6 @@ use Rattle.dc_simplex.proofs.Reach.{no_pivot, one_state, IsBefore, before}
 use Rattle.dc_simplex.proofs.OneAnswer.{ordered}
 
 -- ---- fractions and lists of them are fixed by their numbers
-abbrev AreParts : ℤ × ℤ → Type 0
-AreParts z = (pos 1 ≤ℤ z.1) × (gcd (unsigned_abs z.0) (unsigned_abs z.1) ≡ 1) × (unsigned_abs z.0 < 2 ^ 127)
-
-parts_prop : (z : ℤ × ℤ) → IsProp (AreParts z)
-parts_prop z = hlevel props
-
-frac_of : (z : ℤ × ℤ) × AreParts z → Frac
-frac_of p = record { num = p.0.0; den = p.0.1; positive = p.1.0; reduced = p.1.1; small = p.1.2 }
-
-pair : ℤ → ℤ → ℤ × ℤ
-pair n d = (n, d)
-
-same_frac : (f g : Frac) → value f ≡ value g → f ≡ g
-unfolding frac_of pair
-same_frac f g e = ap frac_of (Σ_prop_path (λ z. parts_prop z) (ap₂ pair (value_num f g e) (value_den f g e)))
-
 same_list : (xs ys : List Frac) → length xs ≡ length ys → ((k : ℕ) → k < length xs → numbers xs k ≡ numbers ys k) → xs ≡ ys
 same_list [] [] l e = refl
 same_list [] (y ∷ ys) l e = absurd (omega (arith, l))

@@ -6,8 +6,7 @@ use Rattle.dc_math.specs.RationalRing.{ring, reads, read_nat, same_form, linear�
 use Rattle.dc_math.specs.Inverse.{inverse, ◌/ℚ◌}
 use Rattle.dc_math.specs.Tests.{is_zero, eq_ℚ_true}
 use Rattle.dc_frac.specs.Fits.{fits, quotient_fits, product_fits, sum_fits}
-use Rattle.dc_frac.proofs.ZeroSums.{left_zero}
-use Rattle.dc_lp.proofs.Zeros.{fits-zero}
+use Rattle.dc_frac.proofs.ZeroSums.{left_zero, fits-zero}
 use Rattle.dc_lp.proofs.Belows.{or_true}
 use Rattle.dc_start.specs.Changes.{step_fits}
 
