@@ -1,9 +1,10 @@
 -- The atoms of facts: their order, what they say, and that they are within their sizes.
-use Rattle.std.specs.Prelude.{◌≡◌, ℕ, suc, ◌≤◌, Bool, true, false, not, ◌&&◌, ◌||◌, ltb, if◌then◌else◌, List, [], ◌∷◌, ◌++◌, map, length, ℤ, pos, neg_ℤ, ◌+ℤ◌, ◌-ℤ◌, int_le, unsigned_abs, Some, None, refl}
+use Rattle.std.specs.Prelude.{◌≡◌, ℕ, ◌≤◌, Bool, true, false, not, ◌&&◌, ◌||◌, ltb, if◌then◌else◌, List, [], ◌∷◌, ◌++◌, map, length, ℤ, pos, neg_ℤ, ◌+ℤ◌, ◌-ℤ◌, int_le, unsigned_abs, Some, None, refl}
 use Rattle.std.specs.declared.option.Option.{Option}
 use Rattle.std.specs.Option.{option_or}
 use Rattle.std.proofs.Common.{sym, ◌∙◌, ap, ap₂, subst, arith, ltb-false}
 use Rattle.std.proofs.lemmas.Int.{ints}
+use Rattle.std.proofs.lemmas.List.{length-map}
 use Rattle.dc_math.specs.WholeVectors.{dot_ℤ}
 use Rattle.dc_syntax.specs.declared.tree.Expr.{Expr, Num, roll-Expr, fold-roll-Expr}
 use Rattle.dc_syntax.specs.declared.tree.Expr.TheOpen as F
@@ -270,14 +271,10 @@ all_fit : (p : TermList) (us : List Exponents) → Canonical p → coefs_fit p �
 all_fit p [] k h = tt
 all_fit p (u ∷ us) k h = (coef_fits p u k h, all_fit p us k h)
 
-length-mapped : (f : Exponents → ℤ) (us : List Exponents) → length (map f us) ≡ length us
-length-mapped f [] = refl
-length-mapped f (u ∷ us) = ap suc (length-mapped f us)
-
 atom_full : (n : ℕ) (f : Fact) → IsFlat n f → IsFullAtom n (atom_of n f)
 atom_full n f h =
     let g = gap_of n f.big f.small in
-    let l : length (map (coef g) (units n)) ≡ n = length-mapped (coef g) (units n) ∙ length-units n in
+    let l : length (map (coef g) (units n)) ≡ n = length-map (units n) (coef g) ∙ length-units n in
     record {
       one_each = l;
       within = record {

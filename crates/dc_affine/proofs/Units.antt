@@ -1,6 +1,7 @@
 -- The variables in order, and an affine form's value by its constant and coefficients.
 use Rattle.std.specs.Prelude.{◌≡◌, ℕ, zero, suc, ◌+◌, ◌≤◌, ◌<◌, List, [], ◌∷◌, ◌++◌, map, take, length, ℤ, pos, ◌+ℤ◌, ◌*ℤ◌, refl}
 use Rattle.std.proofs.Common.{sym, ◌∙◌, ap, ap₂, subst, arith, add-one}
+use Rattle.std.proofs.lemmas.List.{length-map}
 use Rattle.dc_math.specs.WholeRing.{ring, reads, read_nat, same_form}
 use Rattle.dc_math.specs.WholeVectors.{dot_ℤ}
 use Rattle.dc_poly.specs.Terms.{Exponents, TermList, coef, value, degree_of, Places}
@@ -26,13 +27,9 @@ units_next (suc n) zero h = refl
 units_next (suc n) (suc k) h =
     ap (λ y. (1 ∷ zeros n) ∷ y) (take-map after_zero (suc k) (units n) ∙ ap (map after_zero) (units_next n k (omega arith)) ∙ map-push after_zero (take k (units n)) (unit_at n k) ∙ ap (λ y. y ++ (0 ∷ unit_at n k) ∷ []) (sym (take-map after_zero k (units n))))
 
-length-map : {A B : Type 0} (f : A → B) (xs : List A) → length (map f xs) ≡ length xs
-length-map f [] = refl
-length-map f (x ∷ xs) = ap suc (length-map f xs)
-
 pub length-units : (n : ℕ) → length (units n) ≡ n
 length-units zero = refl
-length-units (suc n) = ap suc (length-map after_zero (units n) ∙ length-units n)
+length-units (suc n) = ap suc (length-map (units n) after_zero ∙ length-units n)
 
 pub units_push : (f : Exponents → ℤ) (n k : ℕ) (o p : List ℤ) (x : ℤ) → k < n → x ≡ f (unit_at n k) → p ≡ o ++ x ∷ [] → o ≡ map f (take k (units n)) → p ≡ map f (take (k + 1) (units n))
 units_push f n k o p x h e g i =

@@ -40,15 +40,16 @@ impl From<AllocError> for FormFault {
     }
 }
 
-const MOST: u128 = 2147483647;
+/// The greatest size of a coefficient of a form or an atom.
+pub const MOST_COEFFICIENT: u128 = 2147483647;
 
-// Whether each coefficient is at most 2147483647 in size.
+// Whether each coefficient is at most `MOST_COEFFICIENT` in size.
 
 pub(crate) fn in_range(form: &Poly) -> bool
     ensures { result ≡ coefs_fit form.now.terms }
 {
     for term in form.terms() {
-        if term.coef.unsigned_abs() > MOST {
+        if term.coef.unsigned_abs() > MOST_COEFFICIENT {
             return false;
         }
     }

@@ -3,18 +3,11 @@ use Rattle.std.proofs.Common.{◌≡◌, ℕ, zero, suc, ◌+◌, ◌*◌, ◌/�
 use Rattle.std.proofs.Math.Nat.{mul_comm, mul-add, suc-mul, div-eq_of_eq-mul_right}
 use Rattle.std.proofs.lemmas.Bool.{cases_eq}
 use Rattle.dc_pivots.specs.FieldLaws.{choose}
-
-pub choose-none : (n : ℕ) → choose n zero ≡ 1
-unfolding choose
-choose-none n = refl
+use Rattle.dc_pivots.proofs.Count.{choose-none, choose-more}
 
 choose-empty : (k : ℕ) → choose zero (suc k) ≡ 0
 unfolding choose
 choose-empty k = refl
-
-choose-more : (n k : ℕ) → choose (suc n) (suc k) ≡ choose n k + choose n (suc k)
-unfolding choose
-choose-more n k = refl
 
 absorb-step : (a b p q u v : ℕ) → p ≡ u + v → suc (suc b) * q ≡ suc a * v → suc b * p ≡ suc a * u → suc (suc b) * (p + q) ≡ suc (suc a) * p
 absorb-step a b p q u v e f g =

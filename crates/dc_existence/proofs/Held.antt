@@ -1,7 +1,7 @@
 -- The rows of one argument: what a use or a default puts there was accepted by its parser, and an argument that is required, or has a default, is there.
 use Rattle.std.proofs.Common.{◌≡◌, ◌⊎◌, inl, inr, refl, sym, ap, ◌∙◌, subst, ℕ, Bool, true, false, true≢false, cond, not, ◌&&◌, ◌||◌, arith, List, [], ◌∷◌, ◌++◌, length, Some, None}
 use Rattle.std.specs.Prelude.{find, fold, slice_get}
-use Rattle.std.specs.List.{list_any}
+use Rattle.std.specs.List.{list_any, AllByRecursion}
 use Rattle.std.specs.Option.{option_map_or}
 use Rattle.std.specs.Str.{bytes_eq}
 use Rattle.std.proofs.lemmas.Bool.{ne_eqb}
@@ -183,10 +183,6 @@ abbrev pub IsIn : Rule → List Rule → Type 0
 IsIn a [] = ⊥
 IsIn a (b ∷ c) = (b ≡ a) ⊎ IsIn a c
 
-abbrev pub Each : (Rule → Type 0) → List Rule → Type 0
-Each P [] = Unit {0}
-Each P (b ∷ c) = P b × Each P c
-
 -- an argument with one value at least, or a call for help
 abbrev pub IsPlain : Rule → Type 0
 IsPlain b = ((action_of b ≡ Set) × ((unwrap_or_range b.range).start_inclusive ≡ 1)) ⊎ (action_of b ≡ Help)
@@ -195,7 +191,7 @@ module _ (a : Rule) where
   abbrev IsOnly : Rule → Type 0
   IsOnly b = bytes_eq b.id a.id ≡ true → b ≡ a
 
-  pub each_keeps : (c : List Rule) → Each IsOnly c → Each IsPlain c → EachKeeps (Good a) c
+  pub each_keeps : (c : List Rule) → AllByRecursion IsOnly c → AllByRecursion IsPlain c → EachKeeps (Good a) c
   each_keeps [] h p = tt
   each_keeps (b ∷ c) h p = (by p.0, each_keeps c h.1 p.1)
     where
@@ -203,7 +199,7 @@ module _ (a : Rule) where
       by (inl k) = set_keeps a b h.0 k.0 k.1
       by (inr k) = help_keeps a b k
 
-  pub defaults_good : (c : List Rule) → Each IsOnly c → (rows : List Row) → defaults_fault rows c ≡ [] → Good a rows → Good a (fold with_default rows c)
+  pub defaults_good : (c : List Rule) → AllByRecursion IsOnly c → (rows : List Row) → defaults_fault rows c ≡ [] → Good a rows → Good a (fold with_default rows c)
   unfolding defaults_fault
   defaults_good [] h rows e g = g
   defaults_good (b ∷ c) h rows e g =

@@ -1,7 +1,7 @@
 -- What a command's matches hold, where it takes the words.
 use Rattle.std.proofs.Common.{◌≡◌, ◌⊎◌, inl, inr, refl, sym, ap, ◌∙◌, subst, ℕ, Bool, true, false, true≢false, not, ◌&&◌, ◌||◌, List, [], ◌∷◌, Option, Some, None, is_some}
 use Rattle.std.specs.Prelude.{find, pos, slice_get, option_map, option_and_then}
-use Rattle.std.specs.List.{list_any}
+use Rattle.std.specs.List.{list_any, AllByRecursion}
 use Rattle.std.specs.Str.{bytes_eq}
 use Rattle.std.proofs.lemmas.Slice.Eq.{bytes_eq-Decides}
 use Rattle.clap.specs.Lexer.{without_minus}
@@ -18,7 +18,7 @@ use Rattle.dc_words.specs.Taken.{number_of}
 use Rattle.dc_words.specs.Reading.{IsNumberIn}
 use Rattle.dc_words.proofs.Numbers.{signed_range, unsigned_range}
 use Rattle.dc_existence.proofs.Steps.{first_none, then_none, settled_good, walk_good}
-use Rattle.dc_existence.proofs.Held.{IsRow, Good, found_row, IsIn, Each, IsPlain, each_keeps, defaults_good, default_there, required_there}
+use Rattle.dc_existence.proofs.Held.{IsRow, Good, found_row, IsIn, IsPlain, each_keeps, defaults_good, default_there, required_there}
 
 -- ---- no two arguments have one id
 abbrev IsOnly : Rule → Rule → Type 0
@@ -33,17 +33,17 @@ none_at x a (b ∷ c) e i = by (none_at x a c) (bytes_eq b.id x) refl e i
     by more false f e (inl s) = subst (λ (z : Rule). bytes_eq z.id x ≡ false) s f
     by more false f e (inr i) = more e i
 
-none_same : (a : Rule) (c : List Rule) → list_any (λ q. bytes_eq q.id a.id) c ≡ false → Each (IsOnly a) c
+none_same : (a : Rule) (c : List Rule) → list_any (λ q. bytes_eq q.id a.id) c ≡ false → AllByRecursion (IsOnly a) c
 none_same a [] e = tt
 none_same a (b ∷ c) e = by (none_same a c) (bytes_eq b.id a.id) refl e
   where
-    by : (list_any (λ q. bytes_eq q.id a.id) c ≡ false → Each (IsOnly a) c) → (t : Bool) → bytes_eq b.id a.id ≡ t → (t || list_any (λ q. bytes_eq q.id a.id) c) ≡ false → IsOnly a b × Each (IsOnly a) c
+    by : (list_any (λ q. bytes_eq q.id a.id) c ≡ false → AllByRecursion (IsOnly a) c) → (t : Bool) → bytes_eq b.id a.id ≡ t → (t || list_any (λ q. bytes_eq q.id a.id) c) ≡ false → IsOnly a b × AllByRecursion (IsOnly a) c
     by more true f e = absurd (true≢false e)
     by more false f e = (λ g. absurd (true≢false (sym g ∙ f)), more e)
 
-only : (c : List Rule) → has_distinct_ids c ≡ true → (a : Rule) → IsIn a c → Each (IsOnly a) c
+only : (c : List Rule) → has_distinct_ids c ≡ true → (a : Rule) → IsIn a c → AllByRecursion (IsOnly a) c
 only [] h a i = tt
-only (b ∷ c) h a (inl e) = (λ g. e, subst (λ z. Each (IsOnly z) c) e (none_same b c (is_false _ (both _ _ h).0)))
+only (b ∷ c) h a (inl e) = (λ g. e, subst (λ z. AllByRecursion (IsOnly z) c) e (none_same b c (is_false _ (both _ _ h).0)))
 only (b ∷ c) h a (inr i) =
     let apart : bytes_eq a.id b.id ≡ false = none_at b.id a c (is_false _ (both _ _ h).0) i in
     (λ g. absurd (true≢false (sym ((bytes_eq-Decides a.id b.id).1 (sym ((bytes_eq-Decides b.id a.id).0 g))) ∙ apart)), only c (both _ _ h).1 a i)
@@ -73,7 +73,7 @@ plain_level s words e = go (walk s.rules [] nothing_held words).stopped e
 abbrev pub HasRow : Rule → List Row → Type 0
 HasRow a rows = (r : Row) × (find (λ q. bytes_eq q.id a.id) rows ≡ Some r) × IsRow a r
 
-module _ (s : Shape) (distinct : has_distinct_ids s.rules ≡ true) (plain : Each IsPlain s.rules) (words : List Text) (e : level_fault s [] nothing_held words false [] ≡ []) where
+module _ (s : Shape) (distinct : has_distinct_ids s.rules ≡ true) (plain : AllByRecursion IsPlain s.rules) (words : List Text) (e : level_fault s [] nothing_held words false [] ≡ []) where
   abbrev before : List Row
   before = (settled s.rules (walk s.rules [] nothing_held words).held).rows
 

@@ -1,7 +1,7 @@
 -- Words that a command takes have a reading, so words name some list of files.
 use Rattle.std.proofs.Common.{◌≡◌, inl, inr, refl, sym, ap, ◌∙◌, ℕ, Bool, true, false, true≢false, ◌||◌, cond, List, [], ◌∷◌, Option, Some, None, codes}
 use Rattle.std.specs.Prelude.{pos}
-use Rattle.std.specs.List.{slice_index_or}
+use Rattle.std.specs.List.{slice_index_or, AllByRecursion}
 use Rattle.std.specs.Option.{option_map_or}
 use Rattle.std.specs.Str.{bytes_eq}
 use Rattle.std.proofs.lemmas.Slice.Eq.{bytes_eq-Decides}
@@ -17,7 +17,7 @@ use Rattle.dc_words.specs.Reading.{Reading, for_analyse, for_check, for_sample, 
 use Rattle.dc_answers.specs.Outside.{File}
 use Rattle.dc_answers.specs.Ends.{files_of, Names}
 use Rattle.dc_existence.specs.Laws.{HasNames}
-use Rattle.dc_existence.proofs.Held.{Each, IsPlain}
+use Rattle.dc_existence.proofs.Held.{IsPlain}
 use Rattle.dc_existence.proofs.Lines.{plain_level, HasRow, required_row, default_row, first_row, one_row, signed_number, unsigned_number}
 
 -- ---- analyse
@@ -27,7 +27,7 @@ analyse_shape = (built analyse).top
 abbrev analyse_rule : ℕ → Rule
 analyse_rule k = slice_index_or analyse_shape.rules k help_rule
 
-analyse_plain : Each IsPlain analyse_shape.rules
+analyse_plain : AllByRecursion IsPlain analyse_shape.rules
 analyse_plain = (inl (refl, refl), (inl (refl, refl), (inl (refl, refl), (inl (refl, refl), (inl (refl, refl), (inl (refl, refl), (inl (refl, refl), (inr refl, tt))))))))
 
 analyse_level : (words : List Text) → takes_line analyse words ≡ true → level_fault analyse_shape [] nothing_held (argument_words analyse words) false [] ≡ []
@@ -76,7 +76,7 @@ check_shape = (built check).top
 abbrev check_rule : ℕ → Rule
 check_rule k = slice_index_or check_shape.rules k help_rule
 
-check_plain : Each IsPlain check_shape.rules
+check_plain : AllByRecursion IsPlain check_shape.rules
 check_plain = (inl (refl, refl), (inl (refl, refl), (inl (refl, refl), (inl (refl, refl), (inr refl, tt)))))
 
 check_level : (words : List Text) → takes_line check words ≡ true → level_fault check_shape [] nothing_held (argument_words check words) false [] ≡ []
@@ -103,7 +103,7 @@ sample_shape = (built sample).top
 abbrev sample_rule : ℕ → Rule
 sample_rule k = slice_index_or sample_shape.rules k help_rule
 
-sample_plain : Each IsPlain sample_shape.rules
+sample_plain : AllByRecursion IsPlain sample_shape.rules
 sample_plain = (inl (refl, refl), (inl (refl, refl), (inr refl, tt)))
 
 sample_level : (words : List Text) → takes_line sample words ≡ true → level_fault sample_shape [] nothing_held (argument_words sample words) false [] ≡ []

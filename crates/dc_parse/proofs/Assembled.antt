@@ -29,6 +29,7 @@ use Rattle.dc_descent.specs.Faults.{declared_fault}
 use Rattle.dc_descent.specs.Sources as sources
 use Rattle.std.specs.declared.option.Option.{Option}
 use Rattle.std.specs.Option.{option_map}
+use Rattle.std.specs.List.{AllByRecursion}
 use Rattle.dc_parse.specs.Faults.{fault, kind_of, raised, names_fault, used_fault, verdict_fault}
 use Rattle.dc_descent.specs.Scopes.{spelled, place_in}
 use Rattle.dc_descent.specs.Sources.{Parts, parts_of, declared, names_of, body_of, IsSource}
@@ -39,7 +40,6 @@ use Rattle.dc_parse.specs.Outcomes.{Outcome, says, refuses, lexed, IsOutcome, by
 use Rattle.dc_parse.specs.Forms.{all_faults, first_form, all_below, form_kind}
 use Rattle.dc_parse.specs.Judges.{proc_of, forms_fault, judge_parts, form_at, judge_condition}
 use Rattle.dc_parse.specs.Answers.{SourceOutcome, ConditionOutcome}
-use Rattle.dc_parse.proofs.Counted.{Each}
 use Rattle.dc_parse.proofs.Facts.{Known}
 use Rattle.dc_parse.proofs.Naming.{none_both, GoodNames, declared_good, no_names, used_known}
 use Rattle.dc_parse.proofs.Shallows.{small_tokens, few_of}
@@ -102,7 +102,7 @@ module _ (text : List ℕ) (ts : List Token) (a : Tree Token) where
       let d : _ = none_both (declared_fault text [] (declared (parts_of a))) (descent.used_fault text (names_of text (parts_of a)) (leaves (parts_of a).body)) (raised_none (sources.names_fault text (parts_of a)) n) in
       let i : Inner a = source_body f.0 (few_of ts f.1) (small_tokens t) in
       good_stmts (length (names_of text (parts_of a))) (place_in text (names_of text (parts_of a))) i.derived (record {
-        known = subst (Each (Known (length (names_of text (parts_of a))) (place_in text (names_of text (parts_of a))))) (derived_leaves i.derived) (used_known text (names_of text (parts_of a)) (leaves (parts_of a).body) d.1);
+        known = subst (AllByRecursion (Known (length (names_of text (parts_of a))) (place_in text (names_of text (parts_of a))))) (derived_leaves i.derived) (used_known text (names_of text (parts_of a)) (leaves (parts_of a).body) d.1);
         small = i.small;
         few = i.few;
       })

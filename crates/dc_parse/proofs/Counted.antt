@@ -1,6 +1,7 @@
 -- Kinds of tokens, and how many operators stand among tokens.
 use Rattle.std.proofs.Common.{◌≡◌, ℕ, ◌+◌, ◌≤◌, ◌<◌, Bool, true, false, not, ◌||◌, nat_eq, List, [], ◌∷◌, ◌++◌, get_or, refl, sym, ap, ◌∙◌, subst, arith}
 use Rattle.std.proofs.lemmas.Bool.Decides.{nat_tests}
+use Rattle.std.specs.List.{AllByRecursion}
 use Rattle.dc_tokens.specs.declared.token.TokenKind.{TokenKind}
 use Rattle.dc_tokens.specs.declared.token.TokenKind.TheVariants as k
 use Rattle.dc_tokens.specs.declared.token.Token.{Token}
@@ -73,20 +74,15 @@ is_operator j = has is depth.operators j
 abbrev pub is_inside : TokenKind → Bool
 is_inside j = is_operator j || has is depth.operands j
 
--- a property of each token of a list
-abbrev pub Each : (Token → Type 0) → List Token → Type 0
-Each P [] = Unit {0}
-Each P (t ∷ ts) = P t × Each P ts
-
-pub each_both : (P : Token → Type 0) (u v : List Token) → Each P u → Each P v → Each P (u ++ v)
+pub each_both : (P : Token → Type 0) (u v : List Token) → AllByRecursion P u → AllByRecursion P v → AllByRecursion P (u ++ v)
 each_both P [] v h g = g
 each_both P (t ∷ u) v h g = (h.0, each_both P u v h.1 g)
 
-pub each_front : (P : Token → Type 0) (u v : List Token) → Each P (u ++ v) → Each P u
+pub each_front : (P : Token → Type 0) (u v : List Token) → AllByRecursion P (u ++ v) → AllByRecursion P u
 each_front P [] v h = tt
 each_front P (t ∷ u) v h = (h.0, each_front P u v h.1)
 
-pub each_rest : (P : Token → Type 0) (u v : List Token) → Each P (u ++ v) → Each P v
+pub each_rest : (P : Token → Type 0) (u v : List Token) → AllByRecursion P (u ++ v) → AllByRecursion P v
 each_rest P [] v h = h
 each_rest P (t ∷ u) v h = each_rest P u v h.1
 

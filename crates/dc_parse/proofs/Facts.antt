@@ -1,6 +1,7 @@
 -- What is known of an expression or a condition from the tokens that derive it.
 use Rattle.std.proofs.Common.{◌≡◌, ℕ, ◌+◌, ◌<◌, ◌≤◌, Bool, true, false, ◌&&◌, ◌||◌, ltb, leb, List, [], ◌∷◌, ◌++◌, refl, sym, ap, ap₂, ◌∙◌, subst, append_assoc, append-nil, arith, if◌then◌else◌}
 use Rattle.std.proofs.lemmas.Bool.Decides.{nat_tests}
+use Rattle.std.specs.List.{AllByRecursion}
 use Rattle.dc_tokens.specs.declared.token.TokenKind.{TokenKind}
 use Rattle.dc_tokens.specs.declared.token.TokenKind.TheVariants as k
 use Rattle.dc_tokens.specs.declared.token.Token.{Token}
@@ -17,7 +18,7 @@ use Rattle.dc_affine.specs.Forms.{below_step, is_below}
 use Rattle.dc_affine.specs.Atoms.{cond_below_step, cond_is_below}
 use Rattle.dc_program.specs.Limits.{literals_step, literals_fit, cond_literals_step, cond_literals_fit, operators_step, operators, cond_operators_step, cond_operators}
 use Rattle.dc_descent.specs.Trees.{unary_of, term_of, factors, expr_of, summands, rel_of, fact_of, conj_of, conjuncts, cond_of, disjuncts}
-use Rattle.dc_parse.proofs.Counted.{is_same, Each, each_both, each_front, each_rest, Inside, one_if, ops, ops_both, Operates, Stands, operates, stands}
+use Rattle.dc_parse.proofs.Counted.{is_same, each_both, each_front, each_rest, Inside, one_if, ops, ops_both, Operates, Stands, operates, stands}
 use Rattle.dc_parse.proofs.Folds.{at_num, at_var, at_neg, at_add, at_sub, at_mul, at_true, at_false, at_cmp, at_not, at_and, at_or}
 
 -- a name has a place below n, and a number is at most 2147483647
@@ -29,16 +30,16 @@ Small t = t.value ≤ 2147483647
 
 -- these tokens derive the expression
 pub record ExprFacts (n : ℕ) (p : Token → ℕ) (u : List Token) (x : Expr) : Type 0 where
-  pub inside : Each Inside u
+  pub inside : AllByRecursion Inside u
   pub counts : operators x ≡ ops u
-  pub fits : Each Small u → literals_fit x ≡ true
-  pub below : Each (Known n p) u → is_below n x ≡ true
+  pub fits : AllByRecursion Small u → literals_fit x ≡ true
+  pub below : AllByRecursion (Known n p) u → is_below n x ≡ true
 
 pub record CondFacts (n : ℕ) (p : Token → ℕ) (u : List Token) (x : Cond) : Type 0 where
-  pub inside : Each Inside u
+  pub inside : AllByRecursion Inside u
   pub counts : cond_operators x ≡ ops u
-  pub fits : Each Small u → cond_literals_fit x ≡ true
-  pub below : Each (Known n p) u → cond_is_below n x ≡ true
+  pub fits : AllByRecursion Small u → cond_literals_fit x ≡ true
+  pub below : AllByRecursion (Known n p) u → cond_is_below n x ≡ true
 
 pub both_true : (a b : Bool) → a ≡ true → b ≡ true → (a && b) ≡ true
 both_true true b g h = h
@@ -63,13 +64,13 @@ ops_between u t v o = ops_both u (t ∷ v) ∙ ap (λ z. ops u + z) (ops_before 
 ops_around : (s : Token) (u : List Token) (t : Token) → Stands s → Stands t → ops (s ∷ (u ++ t ∷ [])) ≡ ops u
 ops_around s u t a b = omega (arith, ap (λ z. one_if z + ops (u ++ t ∷ [])) a.counts, ops_both u (t ∷ []), one_stands t b)
 
-inside_between : (u : List Token) (t : Token) (v : List Token) → Each Inside u → Operates t → Each Inside v → Each Inside (u ++ t ∷ v)
+inside_between : (u : List Token) (t : Token) (v : List Token) → AllByRecursion Inside u → Operates t → AllByRecursion Inside v → AllByRecursion Inside (u ++ t ∷ v)
 inside_between u t v a o b = each_both Inside u (t ∷ v) a (o.inside, b)
 
-inside_around : (s : Token) (u : List Token) (t : Token) → Stands s → Each Inside u → Stands t → Each Inside (s ∷ (u ++ t ∷ []))
+inside_around : (s : Token) (u : List Token) (t : Token) → Stands s → AllByRecursion Inside u → Stands t → AllByRecursion Inside (s ∷ (u ++ t ∷ []))
 inside_around s u t a h b = (a.inside, each_both Inside u (t ∷ []) h (b.inside, tt))
 
-each_inner : (P : Token → Type 0) (s : Token) (u : List Token) (t : Token) → Each P (s ∷ (u ++ t ∷ [])) → Each P u
+each_inner : (P : Token → Type 0) (s : Token) (u : List Token) (t : Token) → AllByRecursion P (s ∷ (u ++ t ∷ [])) → AllByRecursion P u
 each_inner P s u t h = each_front P u (t ∷ []) h.1
 
 module _ (n : ℕ) (p : Token → ℕ) where

@@ -3,7 +3,7 @@ use Rattle.std.proofs.Common.{◌≡◌, ℕ, ◌+◌, ◌<◌, ◌≤◌, Bool,
 use Rattle.std.proofs.lemmas.Bool.Decides.{nat_tests}
 use Rattle.std.specs.declared.option.Option.{Option}
 use Rattle.std.specs.Option.{option_or, unwrap_or}
-use Rattle.std.specs.List.{IsDistinct}
+use Rattle.std.specs.List.{IsDistinct, AllByRecursion}
 use Rattle.std.specs.Str.{bytes_eq}
 use Rattle.std.proofs.lemmas.List.Quantifiers.{position-Some}
 use Rattle.std.proofs.lemmas.Map.Keys.{IsDistinct-push}
@@ -14,7 +14,6 @@ use Rattle.dc_syntax.specs.Names.{has_name, place_of}
 use Rattle.dc_descent.specs.declared.fault.Fault.{Fault}
 use Rattle.dc_descent.specs.Faults.{declared_fault, missing, unknown, used_fault}
 use Rattle.dc_descent.specs.Scopes.{spelled, place_in}
-use Rattle.dc_parse.proofs.Counted.{Each}
 use Rattle.dc_parse.proofs.Facts.{Known}
 use Rattle.dc_parse.proofs.Equal.{bytes_equivalence}
 
@@ -63,7 +62,7 @@ known_name text names t h e =
     placed names (spelled text t) t.at (place_of names (spelled text t)) refl
     (sym (ap (λ b. if b then missing (place_of names (spelled text t)) t.at else None) (is_name t e)) ∙ h)
 
-pub used_known : (text : List ℕ) (names : List (List ℕ)) (ts : List Token) → used_fault text names ts ≡ None → Each (Known (length names) (place_in text names)) ts
+pub used_known : (text : List ℕ) (names : List (List ℕ)) (ts : List Token) → used_fault text names ts ≡ None → AllByRecursion (Known (length names) (place_in text names)) ts
 used_known text names [] h = tt
 used_known text names (t ∷ ts) h =
     let n : _ = none_both (unknown text names t) (used_fault text names ts) h in

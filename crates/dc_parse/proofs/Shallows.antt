@@ -1,7 +1,7 @@
 -- The tokens of a text that is not too deep: their numbers are small, and few operators stand in a row.
 use Rattle.std.proofs.Common.{◌≡◌, ◌⊎◌, inr, ℕ, ◌+◌, ◌<◌, ◌≤◌, Bool, true, false, ◌||◌, nat_lt, List, [], ◌∷◌, ◌++◌, length, take, refl, sym, ap, ◌∙◌, subst, append_assoc, arith, length-append, if◌then◌else◌}
 use Rattle.std.proofs.lemmas.Bool.Decides.{nat_tests}
-use Rattle.std.specs.List.{fold}
+use Rattle.std.specs.List.{fold, AllByRecursion}
 use Rattle.std.proofs.lemmas.List.Sums.{fold-append}
 use Rattle.dc_tokens.specs.declared.token.Token.{Token}
 use Rattle.dc_tokens.specs.Pieces.{separator, comment, token}
@@ -11,11 +11,11 @@ use Rattle.dc_grammar.specs.Kinds.{is}
 use Rattle.dc_grammar.specs.Depth as depth
 use Rattle.dc_grammar.specs.Depth.{IsDeep, operators_so_far, operators_with}
 use Rattle.dc_grammar.specs.Verdicts.{Shallow}
-use Rattle.dc_parse.proofs.Counted.{is_operator, Each, Inside, one_if, ops}
+use Rattle.dc_parse.proofs.Counted.{is_operator, Inside, one_if, ops}
 use Rattle.dc_parse.proofs.Facts.{Small}
 use Rattle.dc_parse.proofs.Tame.{Few}
 
-pub small_tokens : {at : ℕ} {bs : List ℕ} {ts : List Token} → Tokens at bs ts → Each Small ts
+pub small_tokens : {at : ℕ} {bs : List ℕ} {ts : List Token} → Tokens at bs ts → AllByRecursion Small ts
 small_tokens end = tt
 small_tokens (piece l (separator h) d) = small_tokens d
 small_tokens (piece l (comment h) d) = small_tokens d
@@ -26,7 +26,7 @@ counted true c m h = omega arith
 counted false true m h = omega arith
 counted false false m h = absurd cc
 
-counts : (m : ℕ) (y : List Token) → Each Inside y → fold operators_with m y ≡ ops y + m
+counts : (m : ℕ) (y : List Token) → AllByRecursion Inside y → fold operators_with m y ≡ ops y + m
 counts m [] h = omega arith
 counts m (t ∷ y) h = counts (operators_with m t) y h.1 ∙ omega (arith, counted (is_operator t.kind) (has is depth.operands t.kind) m h.0)
 

@@ -2,6 +2,7 @@
 use Rattle.std.proofs.Common.{◌≡◌, ℕ, ◌+◌, ◌<◌, ◌≤◌, Bool, true, false, ◌&&◌, ◌||◌, ltb, leb, List, [], ◌∷◌, ◌++◌, refl, sym, ap, ◌∙◌, append_assoc, append-nil, arith, Some, None}
 use Rattle.std.specs.declared.option.Option.{Option}
 use Rattle.std.proofs.lemmas.Bool.Decides.{nat_tests}
+use Rattle.std.specs.List.{AllByRecursion}
 use Rattle.dc_tokens.specs.declared.token.TokenKind.TheVariants as k
 use Rattle.dc_tokens.specs.declared.token.Token.{Token}
 use Rattle.dc_grammar.specs.Grammar.{has, tok, ref, many, opt, ◌▸◌, Tree, Derives, token, nothing, name, both, first, second, no_more, one_more}
@@ -18,18 +19,18 @@ use Rattle.dc_program.specs.Limits.{literals_fit, operators, is_limited, cond_li
 use Rattle.dc_descent.specs.Trees.{expr_of, cond_of}
 use Rattle.dc_descent.specs.Statements.{assigned_of, choice_of, branch_by, loop_by, stmt_of, stmts_of, block_of, else_of}
 use Rattle.dc_parse.specs.Forms.{below_step, stmt_below, all_below}
-use Rattle.dc_parse.proofs.Counted.{is_same, Each, each_front, each_rest, Inside, ops}
+use Rattle.dc_parse.proofs.Counted.{is_same, each_front, each_rest, Inside, ops}
 use Rattle.dc_parse.proofs.Facts.{Known, Small, both_true, ExprFacts, CondFacts, expr_facts, cond_facts}
 use Rattle.dc_parse.proofs.Folds.{at_skip, at_assign, at_any_of, at_between, at_tick, at_assume, at_if, at_if_any, at_while, at_while_any}
 
 -- ---- tokens with places for their names, small numbers, and few operators in a row
 
 abbrev pub Few : List Token → Type 0
-Few ts = (x y z : List Token) → ts ≡ x ++ (y ++ z) → Each Inside y → ops y ≤ 64
+Few ts = (x y z : List Token) → ts ≡ x ++ (y ++ z) → AllByRecursion Inside y → ops y ≤ 64
 
 pub record Tame (n : ℕ) (p : Token → ℕ) (ts : List Token) : Type 0 where
-  pub known : Each (Known n p) ts
-  pub small : Each Small ts
+  pub known : AllByRecursion (Known n p) ts
+  pub small : AllByRecursion Small ts
   pub few : Few ts
 
 pub few_front : (u v : List Token) → Few (u ++ v) → Few u
@@ -38,7 +39,7 @@ few_front u v f x y z e = f x y (z ++ v) (ap (λ w. w ++ v) e ∙ (append_assoc 
 pub few_rest : (u v : List Token) → Few (u ++ v) → Few v
 few_rest u v f x y z e = f (u ++ x) y z (ap (λ w. u ++ w) e ∙ sym (append_assoc u x (y ++ z)))
 
-few_all : (u : List Token) → Few u → Each Inside u → ops u ≤ 64
+few_all : (u : List Token) → Few u → AllByRecursion Inside u → ops u ≤ 64
 few_all u f i = f [] u [] (sym (append-nil u)) i
 
 pub tame_front : {n : ℕ} {p : Token → ℕ} (u v : List Token) → Tame n p (u ++ v) → Tame n p u

@@ -39,11 +39,11 @@ unfolding rank
 rank-none f zero = refl
 rank-none f (suc n) = refl
 
-choose-none : (n : ℕ) → choose n zero ≡ 1
+pub choose-none : (n : ℕ) → choose n zero ≡ 1
 unfolding choose
 choose-none n = refl
 
-choose-more : (n k : ℕ) → choose (suc n) (suc k) ≡ choose n k + choose n (suc k)
+pub choose-more : (n k : ℕ) → choose (suc n) (suc k) ≡ choose n k + choose n (suc k)
 unfolding choose
 choose-more n k = refl
 

@@ -2,6 +2,7 @@
 use Rattle.std.proofs.Common.{◌≡◌, ℕ, zero, suc, ◌+◌, ◌≤◌, Bool, true, false, ◌&&◌, ◌||◌, leb, List, [], ◌∷◌, ◌++◌, take, Option, Some, None, refl, sym, ap, subst, ◌∙◌, arith, append_assoc}
 use Rattle.std.specs.Prelude.{max, fold, if◌then◌else◌}
 use Rattle.std.proofs.lemmas.Bool.Decides.{nat_tests}
+use Rattle.std.specs.List.{AllByRecursion}
 use Rattle.dc_tokens.specs.declared.token.TokenKind.{TokenKind}
 use Rattle.dc_tokens.specs.declared.token.TokenKind.TheVariants as k
 use Rattle.dc_tokens.specs.declared.token.Token.{Token}
@@ -17,7 +18,7 @@ use Rattle.dc_descent.specs.Statements.{assigned_of, choice_of, branch_by, loop_
 use Rattle.dc_descent.specs.Sources.{parts_of}
 use Rattle.dc_program.specs.Limits.{is_limited, cond_is_limited, literals_fit, cond_literals_fit, limits_step, stmt_is_limited, all_limited}
 use Rattle.dc_program.specs.Limits as limits
-use Rattle.dc_parse.proofs.Counted.{is_operator, is_inside, Each, each_both, Inside, one_if, ops, ops_both}
+use Rattle.dc_parse.proofs.Counted.{is_operator, is_inside, each_both, Inside, one_if, ops, ops_both}
 use Rattle.dc_parse.proofs.Facts.{expr_facts, cond_facts}
 use Rattle.dc_parse.proofs.Folds.{at_assign, at_between, at_tick, at_assume, at_if, at_if_any, at_while, at_while_any}
 use Rattle.dc_printed.proofs.Low.{one_kind}
@@ -119,7 +120,7 @@ calm-cons {us} t h g = record {
     none_here : operators_with 0 t ≡ 0
     none_here = go (is_operator t.kind) (has is operands t.kind) h
 
-inside_run : (n : ℕ) (us : List Token) → Each Inside us → (run n us ≡ n + ops us) × (most n us ≤ n + ops us)
+inside_run : (n : ℕ) (us : List Token) → AllByRecursion Inside us → (run n us ≡ n + ops us) × (most n us ≤ n + ops us)
 inside_run n [] h = (omega arith, omega arith)
 inside_run n (t ∷ us) h =
     let e = inside_token n t h.0 in
@@ -127,7 +128,7 @@ inside_run n (t ∷ us) h =
     (omega (arith, g.0), omega (arith, g.1))
 
 -- an expression or a condition, and then what resets
-within : (us : List Token) {vs : List Token} → Each Inside us → ops us ≤ 64 → Falls vs → Calm (us ++ vs)
+within : (us : List Token) {vs : List Token} → AllByRecursion Inside us → ops us ≤ 64 → Falls vs → Calm (us ++ vs)
 within us {vs} h l g =
     let r = inside_run 0 us h in
     let q : run 0 us ≤ 64 = omega (arith, r.0) in
@@ -155,7 +156,7 @@ around o c us h g =
     let d : one_if (is_operator c.kind) ≡ 0 = ap one_if g in
     omega arith
 
-around_inside : (o c : Token) (us : List Token) → Inside o → Inside c → Each Inside us → Each Inside (o ∷ (us ++ c ∷ []))
+around_inside : (o c : Token) (us : List Token) → Inside o → Inside c → AllByRecursion Inside us → AllByRecursion Inside (o ∷ (us ++ c ∷ []))
 around_inside o c us h g e = (h, each_both Inside us (c ∷ []) e (g, tt))
 
 limited_leb : (n : ℕ) → leb n 64 ≡ true → n ≤ 64
@@ -170,7 +171,7 @@ module _ (p : Token → ℕ) where
       let l = limited_leb (limits.operators (expr_of p a)) (and_right (literals_fit (expr_of p a)) _ h) in
       omega arith
 
-  inside_expr : {us : List Token} {a : Tree Token} → Derives language (ref expr) us a → Each Inside us
+  inside_expr : {us : List Token} {a : Tree Token} → Derives language (ref expr) us a → AllByRecursion Inside us
   inside_expr d = let f = expr_facts 0 p d in f.inside
 
   few_cond : {us : List Token} {a : Tree Token} → Derives language (ref cond) us a → cond_is_limited (cond_of p a) ≡ true → ops us ≤ 64
@@ -180,7 +181,7 @@ module _ (p : Token → ℕ) where
       let l = limited_leb (limits.cond_operators (cond_of p a)) (and_right (cond_literals_fit (cond_of p a)) _ h) in
       omega arith
 
-  inside_cond : {us : List Token} {a : Tree Token} → Derives language (ref cond) us a → Each Inside us
+  inside_cond : {us : List Token} {a : Tree Token} → Derives language (ref cond) us a → AllByRecursion Inside us
   inside_cond d = let f = cond_facts 0 p d in f.inside
 
   abbrev LimitedChoice : Option Cond → Type 0
@@ -195,7 +196,7 @@ module _ (p : Token → ℕ) where
       one false = omega arith
   few_choice (name (second d)) l = few_cond d l
 
-  inside_choice : {us : List Token} {a : Tree Token} → Derives language (ref choice) us a → Each Inside us
+  inside_choice : {us : List Token} {a : Tree Token} → Derives language (ref choice) us a → AllByRecursion Inside us
   inside_choice (name (first (token {t = t} h))) = (kind_inside k.Star t h refl, tt)
   inside_choice (name (second d)) = inside_cond d
 

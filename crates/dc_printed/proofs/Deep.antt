@@ -6,6 +6,7 @@ use Rattle.std.specs.Option.{unwrap_or}
 use Rattle.std.specs.Str.{bytes_eq}
 use Rattle.std.proofs.lemmas.Bool.Decides.{nat_tests}
 use Rattle.std.proofs.lemmas.List.Quantifiers.{position-Some}
+use Rattle.std.specs.List.{AllByRecursion}
 use Rattle.dc_tokens.specs.declared.token.Token.{Token}
 use Rattle.dc_tokens.specs.Texts.{Tokens}
 use Rattle.dc_grammar.specs.Grammar.{Tree, Derives, ref}
@@ -16,7 +17,6 @@ use Rattle.dc_syntax.specs.Names.{place_of}
 use Rattle.dc_program.specs.Limits.{all_limited}
 use Rattle.dc_descent.specs.Scopes.{spelled, place_in}
 use Rattle.dc_descent.specs.Sources.{parts_of, names_of, body_of}
-use Rattle.dc_parse.proofs.Counted.{Each}
 use Rattle.dc_parse.proofs.Facts.{Known}
 use Rattle.dc_parse.proofs.Shallows.{small_tokens, few_of}
 use Rattle.dc_parse.proofs.Sourced.{source_body}
@@ -42,7 +42,7 @@ placed : (names : List (List ℕ)) (s : List ℕ) (o : Option ℕ) → place_of 
 placed names s None e = omega arith
 placed names s (Some i) e = let l = (position-Some (bytes_eq s) names i [] e).0 in omega arith
 
-all_known : (text : List ℕ) (names : List (List ℕ)) (ts : List Token) → Each (Known (suc (length names)) (place_in text names)) ts
+all_known : (text : List ℕ) (names : List (List ℕ)) (ts : List Token) → AllByRecursion (Known (suc (length names)) (place_in text names)) ts
 all_known text names [] = tt
 all_known text names (t ∷ ts) = (λ e. placed names (spelled text t) (place_of names (spelled text t)) refl, all_known text names ts)
 

@@ -3,6 +3,7 @@ use Rattle.std.proofs.Common.{◌≡◌, ℕ, ◌+◌, ◌<◌, ◌≤◌, Bool,
 use Rattle.std.specs.Prelude.{if◌then◌else◌, fold}
 use Rattle.std.proofs.lemmas.Bool.Decides.{nat_tests}
 use Rattle.std.specs.Option.{unwrap_or, option_or, option_map}
+use Rattle.std.specs.List.{AllByRecursion}
 use Rattle.dc_tokens.specs.declared.token.TokenKind.TheVariants as k
 use Rattle.dc_tokens.specs.declared.token.Token.{Token}
 use Rattle.dc_tokens.proofs.Readings.{one_reading}
@@ -35,7 +36,6 @@ use Rattle.dc_parse.specs.Forms.{all_faults, first_form}
 use Rattle.dc_parse.specs.Judges.{proc_of, forms_fault, judge_source}
 use Rattle.dc_parse.specs.Answers.{SourceOutcome}
 use Rattle.dc_parse.proofs.Assembled.{raised_none}
-use Rattle.dc_parse.proofs.Counted.{Each}
 use Rattle.dc_parse.proofs.Facts.{Known}
 use Rattle.dc_parse.proofs.Naming.{none_both}
 use Rattle.dc_parse.proofs.Said.{in_source, source_is_program}
@@ -112,7 +112,7 @@ finds_past text ns d i l t e =
     let f : Some i ≡ place_of ns (get_or ns i []) = found ns (get_or ns i []) i l (different_before ns i d l) (bytes_same (get_or ns i [])) in
     ap (λ n. unwrap_or (place_of ns n) (length ns)) e ∙ ap (λ o. unwrap_or o (length ns)) (sym f)
 
-known_used : (text : List ℕ) (ns : List (List ℕ)) (ts : List Token) → Each (Known (length ns) (past text ns)) ts → used_fault text ns ts ≡ None
+known_used : (text : List ℕ) (ns : List (List ℕ)) (ts : List Token) → AllByRecursion (Known (length ns) (past text ns)) ts → used_fault text ns ts ≡ None
 known_used text ns [] h = refl
 known_used text ns (t ∷ ts) h = rw (one (is k.Name t.kind) refl) (known_used text ns ts h.1)
   where

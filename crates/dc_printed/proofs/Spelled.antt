@@ -1,6 +1,7 @@
 -- What the tokens of a text are spelled with, and that names are spelled as names.
 use Rattle.std.proofs.Common.{◌≡◌, ℕ, zero, suc, ◌+◌, ◌-◌, Bool, true, false, ◌&&◌, nat_eq, List, [], ◌∷◌, ◌++◌, map, take, drop, Option, Some, refl, sym, ap, subst, ◌∙◌, arith}
 use Rattle.std.specs.Prelude.{if◌then◌else◌}
+use Rattle.std.specs.List.{AllByRecursion}
 use Rattle.dc_tokens.specs.declared.token.TokenKind.{TokenKind}
 use Rattle.dc_tokens.specs.declared.token.TokenKind.TheVariants as k
 use Rattle.dc_tokens.specs.declared.token.Token.{Token}
@@ -13,7 +14,7 @@ use Rattle.dc_grammar.specs.Grammar as g
 use Rattle.dc_grammar.specs.Language.{language, source, names}
 use Rattle.dc_descent.specs.Scopes.{spelled}
 use Rattle.dc_descent.specs.Sources.{more_names, names_in, params_in, locals_in, parts_of}
-use Rattle.dc_parse.proofs.Counted.{Each, each_front, each_rest}
+use Rattle.dc_parse.proofs.Counted.{each_front, each_rest}
 use Rattle.dc_printed.specs.Fits.{IsName, AreNames}
 use Rattle.dc_printed.proofs.Exprs.{drop_sum}
 use Rattle.dc_printed.proofs.Low.{one_kind}
@@ -23,13 +24,13 @@ use Rattle.dc_printed.proofs.Sources.{AllNames}
 abbrev pub Spells : List ℕ → Token → Type 0
 Spells whole t = kind_of (spelled whole t) ≡ Some t.kind
 
-with_spelled : (whole : List ℕ) (at n : ℕ) (bs : List ℕ) (o : Option Token) (ts : List Token) → drop at whole ≡ bs → Piece at bs o n → Each (Spells whole) ts → Each (Spells whole) (with_token o ts)
+with_spelled : (whole : List ℕ) (at n : ℕ) (bs : List ℕ) (o : Option Token) (ts : List Token) → drop at whole ≡ bs → Piece at bs o n → AllByRecursion (Spells whole) ts → AllByRecursion (Spells whole) (with_token o ts)
 with_spelled whole at n bs o ts e (separator h) r = r
 with_spelled whole at n bs o ts e (comment h) r = r
 with_spelled whole at n bs o ts e (token {kind = kind} l v) r =
     (ap kind_of (ap (λ i. take i (drop at whole)) (let q : at + n - at ≡ n = omega arith in q) ∙ ap (take n) e) ∙ l.spelled, r)
 
-pub tokens_spelled : (whole : List ℕ) {at : ℕ} {bs : List ℕ} {ts : List Token} → Tokens at bs ts → drop at whole ≡ bs → Each (Spells whole) ts
+pub tokens_spelled : (whole : List ℕ) {at : ℕ} {bs : List ℕ} {ts : List Token} → Tokens at bs ts → drop at whole ≡ bs → AllByRecursion (Spells whole) ts
 tokens_spelled whole end e = tt
 tokens_spelled whole (piece {at} {n} {bs} {found = o} {ts} l p d) e =
     with_spelled whole at n bs o ts e p (tokens_spelled whole d (drop_sum at n whole ∙ ap (drop n) e))
@@ -75,18 +76,18 @@ named_token whole t s h = spelled_name (spelled whole t) (s ∙ ap Some (one_kin
 
 -- ---- the names of a source
 
-more_named : (whole : List ℕ) {us : List Token} {a : Tree Token} → Derives language (many (seq (tok k.Comma) (tok k.Name))) us a → Each (Spells whole) us → AllNames (map (spelled whole) (more_names a))
+more_named : (whole : List ℕ) {us : List Token} {a : Tree Token} → Derives language (many (seq (tok k.Comma) (tok k.Name))) us a → AllByRecursion (Spells whole) us → AllNames (map (spelled whole) (more_names a))
 more_named whole no_more s = tt
 more_named whole (one_more {u = u} {v = v} (both (g.token h) (g.token {t = n} f)) d) s = (named_token whole n (s.1.0) f, more_named whole d (s.1.1))
 
-names_named : (whole : List ℕ) {us : List Token} {a : Tree Token} → Derives language (ref names) us a → Each (Spells whole) us → AllNames (map (spelled whole) (names_in a))
+names_named : (whole : List ℕ) {us : List Token} {a : Tree Token} → Derives language (ref names) us a → AllByRecursion (Spells whole) us → AllNames (map (spelled whole) (names_in a))
 names_named whole (name (both (g.token {t = t} h) d)) s = (named_token whole t s.0 h, more_named whole d s.1)
 
-params_named : (whole : List ℕ) {us : List Token} {a : Tree Token} → Derives language (opt (ref names)) us a → Each (Spells whole) us → AllNames (map (spelled whole) (params_in a))
+params_named : (whole : List ℕ) {us : List Token} {a : Tree Token} → Derives language (opt (ref names)) us a → AllByRecursion (Spells whole) us → AllNames (map (spelled whole) (params_in a))
 params_named whole (first d) s = names_named whole d s
 params_named whole (second nothing) s = tt
 
-locals_named : (whole : List ℕ) {us : List Token} {a : Tree Token} → Derives language (opt (seq (tok k.Var) (seq (ref names) (tok k.Semi)))) us a → Each (Spells whole) us → AllNames (map (spelled whole) (locals_in a))
+locals_named : (whole : List ℕ) {us : List Token} {a : Tree Token} → Derives language (opt (seq (tok k.Var) (seq (ref names) (tok k.Semi)))) us a → AllByRecursion (Spells whole) us → AllNames (map (spelled whole) (locals_in a))
 locals_named whole (first (both (g.token h) (both {u = u} d (g.token {t = m} f)))) s = names_named whole d (each_front (Spells whole) u (m ∷ []) s.1)
 locals_named whole (second nothing) s = tt
 
@@ -102,7 +103,7 @@ pub record SourceNames (whole : List ℕ) (a : Tree Token) : Type 0 where
   pub own : IsName (spelled whole (parts_of a).name)
   pub declared : AllNames (map (spelled whole) ((parts_of a).params ++ (parts_of a).locals))
 
-pub source_names : (whole : List ℕ) {us : List Token} {a : Tree Token} → Derives language (ref source) us a → Each (Spells whole) us → SourceNames whole a
+pub source_names : (whole : List ℕ) {us : List Token} {a : Tree Token} → Derives language (ref source) us a → AllByRecursion (Spells whole) us → SourceNames whole a
 source_names whole (name (both (g.token h) (both (g.token {t = n} e) (both (g.token f) (both {u = u} {a = x} d (both (g.token c) (both (g.token b) (both {u = v} {a = y} dl (both ds (g.token z)))))))))) s =
     let r = s.1.1.1 in
     let q = (each_rest (Spells whole) u _ r).1.1 in

@@ -6,6 +6,8 @@ use Rattle.std.specs.List.{list_all}
 use Rattle.dc_printed.specs.Brackets.{is_bracket, brackets_of, bracket_of, brackets_in}
 use Rattle.std.proofs.lemmas.Bool.Decides.{nat_tests}
 use Rattle.std.proofs.Math.ListN.{get_or-append}
+use Rattle.std.proofs.lemmas.List.Elements.{All-get_or}
+use Rattle.std.proofs.lemmas.List.Sums.{AllPass-from_list_all}
 use Rattle.dc_tokens.specs.declared.token.TokenKind.{TokenKind}
 use Rattle.dc_tokens.specs.declared.token.TokenKind.TheVariants as k
 use Rattle.dc_tokens.specs.declared.token.Token.{Token}
@@ -88,10 +90,8 @@ after : (w rest : List ℕ) → get_or (w ++ rest) (length w) 0 ≡ get_or rest 
 after [] rest = refl
 after (b ∷ w) rest = after w rest
 
-pub each : (p : ℕ → Bool) (w : List ℕ) → list_all p w ≡ true → (i : ℕ) → i < length w → p (get_or w i 0) ≡ true
-each p [] h i l = absurd (omega arith)
-each p (b ∷ w) h zero l = and_left (p b) _ h
-each p (b ∷ w) h (suc i) l = each p w (and_right (p b) _ h) i (omega arith)
+passes_at : (p : ℕ → Bool) (w : List ℕ) → list_all p w ≡ true → (i : ℕ) → i < length w → p (get_or w i 0) ≡ true
+passes_at p w h i l = All-get_or (λ b. p b ≡ true) w i 0 l (AllPass-from_list_all p w h)
 
 -- a name or a keyword
 pub word_front : (w rest : List ℕ) → is_word w ≡ true → Breaks rest → Longest (w ++ rest) (length w) (word_kind w)
@@ -99,7 +99,7 @@ word_front [] rest h b = absurd cc
 word_front (x ∷ w) rest h b =
     subst (λ v. Longest (x ∷ w ++ rest) (length (x ∷ w)) (word_kind v)) (front (x ∷ w) rest)
     (word_longest (x ∷ w ++ rest) (length (x ∷ w)) (omega arith) (and_left (is_letter x) _ h) (let l = length-append (x ∷ w) rest in omega arith)
-    (λ i l. ap is_word_byte (in_front (x ∷ w) rest i l) ∙ each is_word_byte (x ∷ w) (rw (and_left (is_letter x) _ h) (and_right (is_letter x) _ h)) i l)
+    (λ i l. ap is_word_byte (in_front (x ∷ w) rest i l) ∙ passes_at is_word_byte (x ∷ w) (rw (and_left (is_letter x) _ h) (and_right (is_letter x) _ h)) i l)
     (λ l. ap is_word_byte (after (x ∷ w) rest) ∙ b))
 
 digit_no_letter : (b : ℕ) → is_digit b ≡ true → is_letter b ≡ false
@@ -112,7 +112,7 @@ pub number_front : (w rest : List ℕ) → is_number w ≡ true → Breaks rest 
 number_front [] rest h b = absurd cc
 number_front (x ∷ w) rest h b =
     number_longest (x ∷ w ++ rest) (length (x ∷ w)) (omega arith) (digit_no_letter x (and_left (is_digit x) _ h)) (and_left (is_digit x) _ h) (let l = length-append (x ∷ w) rest in omega arith)
-    (λ i l. ap is_digit (in_front (x ∷ w) rest i l) ∙ each is_digit (x ∷ w) h i l)
+    (λ i l. ap is_digit (in_front (x ∷ w) rest i l) ∙ passes_at is_digit (x ∷ w) h i l)
     (λ l. ap is_digit (after (x ∷ w) rest) ∙ no_digit (get_or rest 0 0) b)
 
 -- ---- signs

@@ -3,6 +3,7 @@ use Rattle.std.specs.Prelude.{◌≡◌, ℕ, suc, ◌+◌, ◌≤◌, Bool, tru
 use Rattle.std.specs.List.{AllByRecursion}
 use Rattle.std.proofs.Common.{sym, ◌∙◌, ap, subst, arith, length-append}
 use Rattle.std.proofs.lemmas.Bool.{leb-true}
+use Rattle.std.proofs.lemmas.List.{length-map}
 use Rattle.dc_poly.specs.Terms.{degree_of, Polynomial, Places}
 use Rattle.dc_poly.specs.Sums.{unit_at, zeros, plus, composition_of, places_of, sum_of}
 use Rattle.dc_poly.specs.Sums as sums
@@ -81,10 +82,6 @@ cost_at n e f h j g =
     }
 
 -- ---- atoms
-length-map : {A B : Type 0} (f : A → B) (xs : List A) → length (map f xs) ≡ length xs
-length-map f [] = refl
-length-map f (x ∷ xs) = ap suc (length-map f xs)
-
 AllAtoms-++ : (P : Atom → Type 0) (a b : List Atom) → AllAtoms P a → AllAtoms P b → AllAtoms P (a ++ b)
 AllAtoms-++ P [] b h k = k
 AllAtoms-++ P (x ∷ a) b h k = (h.0, AllAtoms-++ P a b h.1 k)
@@ -97,7 +94,7 @@ sized : (m : ℕ) (a : Atom) (vs : List Polynomial) → atom_fits (atom_at m a v
 sized m a vs h =
     let b = atom_at m a vs in
     let q = and_both (leb (unsigned_abs b.c0) 2147483648) (numbers_fit b.coefs) h in
-    let l : length b.coefs ≡ m = length-map (coef_at a.coefs vs) (units m) ∙ length-units m in
+    let l : length b.coefs ≡ m = length-map (units m) (coef_at a.coefs vs) ∙ length-units m in
     record { few = omega arith; coefs_within = numbers_all b.coefs q.1; constant_within = leb-true (unsigned_abs b.c0) 2147483648 q.0 }
 
 all_sized : (m : ℕ) (gs : List Atom) (vs : List Polynomial) → atoms_fit (atoms_at m gs vs) ≡ true → AllAtoms (IsAtom m) (atoms_at m gs vs)
@@ -131,10 +128,10 @@ forms_skip n e (p ∷ ps) h u s = (form_skips n e p h u s.0, forms_skip n e ps h
 -- ---- the whole
 pub composed_edge : (n : ℕ) (e f : Edge) → n ≤ 10 → IsEdge n e → IsEdge n f → Composable n e f → IsEdge n (composed n e f)
 composed_edge n e f h j k c = record {
-  one_each = length-map (λ p. composition_of p (after n e)) f.update ∙ k.one_each;
+  one_each = length-map f.update (λ p. composition_of p (after n e)) ∙ k.one_each;
   updates = all_forms_at n e f.update h j c.updates;
   cost = cost_at n e f h j c.cost;
-  few_atoms = (let a = length-append e.guard (atoms_at (n + 1) f.guard (after n e)) in let b = length-map (λ a. atom_at (n + 1) a (after n e)) f.guard in let d = c.few in omega arith);
+  few_atoms = (let a = length-append e.guard (atoms_at (n + 1) f.guard (after n e)) in let b = length-map f.guard (λ a. atom_at (n + 1) a (after n e)) in let d = c.few in omega arith);
   atoms = AllAtoms-++ (IsAtom (n + 1)) e.guard (atoms_at (n + 1) f.guard (after n e)) j.atoms (all_sized (n + 1) f.guard (after n e) c.atoms);
   unchosen = λ q. let a = neither e.any f.any q in let u = j.unchosen a.0 in let v = k.unchosen a.1 in record {
     guard = AllAtoms-++ (AtomSkips n) e.guard (atoms_at (n + 1) f.guard (after n e)) u.guard (atoms_skip n e f.guard j u v.guard);

@@ -4,6 +4,7 @@ use Rattle.std.specs.List.{AllByRecursion}
 use Rattle.std.proofs.Common.{sym, ◌∙◌, ap, ap₂, subst, arith, inl, inr}
 use Rattle.std.proofs.lemmas.Int.{ints}
 use Rattle.std.proofs.lemmas.Bool.{leb-true}
+use Rattle.std.proofs.lemmas.List.{length-map}
 use Rattle.dc_math.specs.WholeRing.{ring, reads, read_nat, same_form}
 use Rattle.dc_math.specs.WholeVectors.{dot_ℤ}
 use Rattle.dc_syntax.specs.Value.{State}
@@ -141,12 +142,8 @@ step_any n e s t c y z h a l w =
       moves = w.moves ∙ values_skip n e.update s y z (forms_padded n e.update h.updates) u.update l;
     }
 
-length-map : {A B : Type 0} (f : A → B) (xs : List A) → length (map f xs) ≡ length xs
-length-map f [] = refl
-length-map f (x ∷ xs) = ap suc (length-map f xs)
-
 pub step_length : (n : ℕ) (e : Edge) (s t : State) (c z : ℤ) → IsEdge n e → Step e s z c t → length t ≡ n
-step_length n e s t c z h w = ap length w.moves ∙ length-map (λ (p : Polynomial). value p.terms (at s z)) e.update ∙ h.one_each
+step_length n e s t c z h w = ap length w.moves ∙ length-map e.update (λ (p : Polynomial). value p.terms (at s z)) ∙ h.one_each
 
 -- ---- what can be composed
 pub record Composable (n : ℕ) (e f : Edge) : Type 0 where

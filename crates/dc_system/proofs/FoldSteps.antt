@@ -16,7 +16,7 @@ use Rattle.dc_system.proofs.Lists.{among_each, among_map}
 use Rattle.dc_system.proofs.Filters.{length-filter_less, length-numbers}
 use Rattle.dc_system.proofs.Folds.{joined_at, second_from, second_in}
 use Rattle.dc_system.proofs.Places.{map-push}
-use Rattle.dc_system.proofs.Renumbered.{Kept, foldings_keep, starts, folded_paths, folded_shaped, length-map}
+use Rattle.dc_system.proofs.Renumbered.{Kept, foldings_keep, starts, folded_paths, folded_shaped}
 
 -- ---- what the loop keeps
 pub begun : (n x : ℕ) (left : List ℕ) (es : List Edge) → Folding n x left es left es
@@ -50,7 +50,7 @@ less_edges n x l c es q =
     let s : (if eqb J.second.to l then c else J.second) ≡ J.second = ap (λ b. if b then c else J.second) (ne_eqb J.second.to l to_other) in
     let i : Among J.second (map (λ (e : Edge). if eqb e.to l then c else e) es) = subst (λ y. Among y (map (λ (e : Edge). if eqb e.to l then c else e) es)) s (among_map (λ (e : Edge). if eqb e.to l then c else e) (second_in n x l es c J)) in
     let a = length-filter_less (λ (e : Edge). not (eqb e.from l)) J.second (map (λ (e : Edge). if eqb e.to l then c else e) es) (ap not (eq-eqb J.second.from l (second_from n x l es c J))) i in
-    let b = length-map (λ (e : Edge). if eqb e.to l then c else e) es in
+    let b = length-map es (λ (e : Edge). if eqb e.to l then c else e) in
     omega arith
 
 pub least_less : (n x : ℕ) (fs : List Edge) (o : Option Spot) (s : Spot) (gs : List Edge) → IsLeast n x fs o → o ≡ Some s → gs ≡ folded s.location s.edge fs → length gs < length fs

@@ -4,6 +4,7 @@ use Rattle.std.specs.List.{AllByRecursion}
 use Rattle.std.proofs.Common.{sym, ◌∙◌, ap, ap₂, subst, arith, inl, inr}
 use Rattle.std.proofs.lemmas.Bool.{lt-ltb}
 use Rattle.std.proofs.lemmas.Int.{ints}
+use Rattle.std.proofs.lemmas.List.{length-map}
 use Rattle.dc_math.specs.WholeVectors.{dot_ℤ}
 use Rattle.dc_syntax.specs.declared.tree.Expr.{Expr, Var, roll-Expr, fold-roll-Expr}
 use Rattle.dc_syntax.specs.declared.tree.Expr.TheOpen as F
@@ -85,14 +86,10 @@ all_fit : (p : TermList) (us : List Exponents) → ((u : Exponents) → unsigned
 all_fit p [] h = tt
 all_fit p (u ∷ us) h = (h u, all_fit p us h)
 
-length-mapped : (f : Exponents → ℤ) (us : List Exponents) → length (map f us) ≡ length us
-length-mapped f [] = refl
-length-mapped f (u ∷ us) = ap suc (length-mapped f us)
-
 pub atom_sized : (m : ℕ) (f : Fact) → IsLevel m f → IsAtom m (atom_of m f)
 atom_sized m f h =
     let g = gap_of m f.big f.small in
-    let l : length (map (coef g) (units m)) ≡ m = length-mapped (coef g) (units m) ∙ length-units m in
+    let l : length (map (coef g) (units m)) ≡ m = length-map (units m) (coef g) ∙ length-units m in
     record {
       few = omega arith;
       coefs_within = all_fit g (units m) h.small;

@@ -3,6 +3,7 @@ use Rattle.std.specs.Prelude.{◌≡◌, ◌↔◌, ◌⊎◌, ℕ, suc, ◌-◌
 use Rattle.std.specs.List.{AllByRecursion}
 use Rattle.std.proofs.Common.{sym, ◌∙◌, ap, subst, arith, inl, inr}
 use Rattle.std.proofs.lemmas.Bool.{ne_eqb}
+use Rattle.std.proofs.lemmas.List.{length-map}
 use Rattle.dc_syntax.specs.declared.tree.Proc.{Proc}
 use Rattle.dc_syntax.specs.Value.{State}
 use Rattle.dc_syntax.specs.Run.{Run}
@@ -63,14 +64,10 @@ pub record Kept (start : List ℕ) (begun : List Edge) (n x : ℕ) (left : List 
 left_still : (l k : ℕ) (left : List ℕ) → (k ≡ l → ⊥) → Among k left → Among k (without l left)
 left_still l k left h i = kept_in (λ j. not (eqb j l)) k left (ap not (ne_eqb k l h)) i
 
-pub length-map : {A B : Type 0} (f : A → B) (xs : List A) → length (map f xs) ≡ length xs
-length-map f [] = refl
-length-map f (x ∷ xs) = ap suc (length-map f xs)
-
 length-folded : (l : ℕ) (c : Edge) (es : List Edge) → length (folded l c es) ≤ length es
 length-folded l c es =
     let a = length-filter (λ (e : Edge). not (eqb e.from l)) (map (λ (e : Edge). if eqb e.to l then c else e) es) in
-    let b = length-map (λ (e : Edge). if eqb e.to l then c else e) es in
+    let b = length-map es (λ (e : Edge). if eqb e.to l then c else e) in
     omega arith
 
 net_folds : (n x l : ℕ) (left : List ℕ) (es : List Edge) (c : Edge) → n ≤ 10 → Net n x left es → Joined n x l es c → Net n x (without l left) (folded l c es)
@@ -155,7 +152,7 @@ folded_shaped y f w F =
     let b = length-numbers y.locs in
     let d = w.few_locations in
     let g = K.fewer_edges in
-    let i = length-map (renumbered F.left) F.edges in
+    let i = length-map F.edges (renumbered F.left) in
     let j = w.few_edges in
     let o = last_number F.left (y.locs - 1) K.net.last in
     subst IsWellFormed (sym F.is) (record {

@@ -3,6 +3,7 @@ use Rattle.std.specs.Prelude.{◌≡◌, ℕ, zero, suc, ◌+◌, ◌≤◌, ◌
 use Rattle.std.specs.List.{AllByRecursion}
 use Rattle.std.proofs.Common.{sym, ◌∙◌, ap, subst, arith, ltb-false}
 use Rattle.std.proofs.Math.ListN.{length-set}
+use Rattle.std.proofs.lemmas.List.{length-map}
 use Rattle.dc_syntax.specs.declared.tree.Expr.{Expr}
 use Rattle.dc_syntax.specs.declared.tree.Expr.TheVariants.{Var}
 use Rattle.dc_syntax.specs.declared.tree.Proc.{Proc}
@@ -110,10 +111,6 @@ facts_skip n [] h = tt
 facts_skip n (f ∷ fs) h = (fact_skips n f h.0, facts_skip n fs h.1)
 
 -- ---- each edge
-length-map : {A B : Type 0} (f : A → B) (xs : List A) → length (map f xs) ≡ length xs
-length-map f [] = refl
-length-map f (x ∷ xs) = ap suc (length-map f xs)
-
 edge_shaped : (n : ℕ) (a : Arrow) → n ≤ 10 → LabelPasses n a.label → IsEdge n (edge_of n a)
 edge_shaped n a h p = by a.from a.to a.label p
   where
@@ -162,7 +159,7 @@ edge_shaped n a h p = by a.from a.to a.label p
       one_each = length-variables (n + 1) n;
       updates = variables_forms n n h;
       cost = free_form n h;
-      few_atoms = (let l = length-map (atom_of (n + 1)) f in let m = p.few in omega arith);
+      few_atoms = (let l = length-map f (atom_of (n + 1)) in let m = p.few in omega arith);
       atoms = all_sized (n + 1) f p.level;
       unchosen = λ q. record { guard = facts_skip n f p.below; update = variables_skip n n (omega arith); cost = tt };
     }

@@ -7,12 +7,10 @@ ghost use Rattle.dc_affine.specs.Atoms.{AllAtoms, AllFit, IsAtom};
 ghost use Rattle.dc_system.specs.Composed.{atom_at, atom_fits, atoms_at, atoms_fit, coef_at};
 ghost use Rattle.dc_system.specs.Small.{IsGuard, IsSmall};
 
-use dc_affine::Atom;
+use dc_affine::{Atom, MOST_COEFFICIENT};
 use dc_poly::{Mono, Poly};
 use sqlite_items::Items;
 use std::alloc::{AllocError, Global};
-
-const MOST: u128 = 2147483647;
 
 const MOST_CONSTANT: u128 = 2147483648;
 
@@ -66,7 +64,7 @@ fn atom_with(
     for k in 0..places {
         let unit = Mono::unit(alloc, k, places)?;
         let coef = combined(coefs, values, &unit);
-        if exceeds(&coef, MOST) {
+        if exceeds(&coef, MOST_COEFFICIENT) {
             return Ok(None);
         }
         all.push(narrow(&coef))?;

@@ -13,13 +13,12 @@ ghost use Rattle.dc_system.specs.Small.{AreForms, AreValues};
 
 use crate::atoms::guard_with;
 use crate::edges::Edge;
+use dc_affine::MOST_COEFFICIENT;
 use dc_poly::Poly;
 use sqlite_items::Items;
 use std::alloc::{AllocError, Global};
 
 const MOST_ATOMS: usize = 256;
-
-const MOST: u128 = 2147483647;
 
 // Whether each form has a degree of at most 1.
 fn all_flat(forms: &[Poly]) -> bool
@@ -33,12 +32,12 @@ fn all_flat(forms: &[Poly]) -> bool
     true
 }
 
-// Whether each coefficient is at most 2147483647 in size.
+// Whether each coefficient is at most `MOST_COEFFICIENT` in size.
 fn in_range(form: &Poly) -> bool
     ensures { result ≡ coefs_fit form.now.terms }
 {
     for term in form.terms() {
-        if term.coef.unsigned_abs() > MOST {
+        if term.coef.unsigned_abs() > MOST_COEFFICIENT {
             return false;
         }
     }

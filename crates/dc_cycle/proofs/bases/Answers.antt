@@ -1,6 +1,7 @@
 use Rattle.std.proofs.Common.{arith, sym, subst, ℕ, ◌≡◌, ◌+◌, ◌≤◌, ◌<◌, ◌^◌}
 use Rattle.dc_pivots.specs.FieldLaws.{choose}
-use Rattle.dc_cycle.proofs.Binomials.{choose-none, choose-grows}
+use Rattle.dc_pivots.proofs.Count.{choose-none}
+use Rattle.dc_cycle.proofs.Binomials.{choose-grows}
 use Rattle.dc_cycle.proofs.bases.Goals as goal
 
 pub loop-i-init : goal.loop-i-init
