@@ -10,3 +10,4 @@ pub mod Total
 pub mod Verdicts
 pub mod Right
 pub mod Deepening
+pub mod Nesting

@@ -3,6 +3,7 @@ ghost use Rattle.dc_grammar.specs.Depth.{IsDeep};
 ghost use Rattle.dc_grammar.specs.Language.{language};
 ghost use Rattle.dc_grammar.specs.Laws.{ReadsRight};
 ghost use Rattle.dc_grammar.specs.Lookahead.{LooksAhead};
+ghost use Rattle.dc_grammar.specs.Nesting.{CountsOpen};
 ghost use Rattle.dc_grammar.specs.Readers.{language_reader};
 ghost use Rattle.dc_grammar.specs.Trees.{HasOneTree};
 ghost use Rattle.dc_grammar.specs.Verdicts.{HasOneVerdict};
@@ -33,3 +34,8 @@ pub fn one_language_verdict(tokens: &[Token])
 {
     let _ = tokens;
 }
+
+/// In what begins a text of a name each closing bracket closes the last one that is open, and the scan counts those that stay open.
+pub fn the_scan_counts_open_brackets()
+    ensures { CountsOpen }
+{}
