@@ -11,3 +11,4 @@ pub mod Verdicts
 pub mod Right
 pub mod Deepening
 pub mod Nesting
+pub mod Standing

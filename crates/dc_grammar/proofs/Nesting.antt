@@ -2,7 +2,6 @@
 use Rattle.std.proofs.Common.{◌≡◌, ℕ, suc, ◌+◌, ◌-◌, Bool, true, false, List, [], ◌∷◌, ◌++◌, length, refl, sym, ap, ◌∙◌, subst, arith}
 use Rattle.std.specs.Prelude.{fold, if◌then◌else◌}
 use Rattle.dc_tokens.specs.declared.token.TokenKind.{TokenKind}
-use Rattle.dc_tokens.specs.declared.token.TokenKind.TheVariants as k
 use Rattle.dc_tokens.specs.declared.token.Token.{Token}
 use Rattle.dc_grammar.specs.Grammar.{Rule, one, nil, ref, seq, alt, many, tok, Tree, Derives, has}
 use Rattle.dc_grammar.specs.Grammar as D

@@ -7,5 +7,6 @@ pub mod Readers
 pub mod Trees
 pub mod Depth
 pub mod Nesting
+pub mod Standing
 pub mod Verdicts
 pub mod Laws

@@ -1,5 +1,5 @@
 -- Brackets in pairs, and those that stay open.
-use Rattle.std.specs.Prelude.{◌≡◌, ℕ, false, true, List, [], ◌∷◌, length}
+use Rattle.std.specs.Prelude.{◌≡◌, false, true, List, [], ◌∷◌, length}
 use Rattle.dc_tokens.specs.declared.token.TokenKind.{TokenKind}
 use Rattle.dc_tokens.specs.declared.token.TokenKind.TheVariants as k
 use Rattle.dc_tokens.specs.declared.token.Token.{Token}
