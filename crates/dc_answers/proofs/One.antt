@@ -27,7 +27,7 @@ use Rattle.dc_answers.specs.Ends.{Output, output, End, Printed, Refused, TextsEn
 use Rattle.dc_answers.specs.Ends as ends
 use Rattle.dc_answers.specs.Ends.{CertificateEnds, fails, holds, settings_of}
 use Rattle.dc_answers.specs.Laws.{OneList, OneAnswer}
-use Rattle.dc_answers.proofs.Readings.{one_reading}
+use Rattle.dc_words.proofs.Unique.{one_reading}
 use Rattle.dc_answers.proofs.Texts.{one_told}
 use Rattle.dc_answers.proofs.Checks.{one_check_fault, accepts_or_faulty}
 

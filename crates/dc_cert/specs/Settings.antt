@@ -1,4 +1,4 @@
--- The settings that an analysis takes.
+-- The settings that an analysis takes: the limits within which they lie.
 use Rattle.std.specs.Prelude.{◌≤◌}
 use Rattle.dc_cert.specs.declared.certificate.Settings.{Settings}
 

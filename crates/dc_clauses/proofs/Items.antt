@@ -13,6 +13,7 @@ use Rattle.dc_lp.proofs.Folding.{folded-none}
 use Rattle.dc_cert.specs.declared.sparse.Item.{Item}
 use Rattle.dc_cert.specs.Vectors.{AreItems, IsBelow, entry_after, entry_of}
 use Rattle.dc_cert.proofs.Returned.{entry-before}
+pub use Rattle.dc_clauses.specs.Items.{items_sum}
 
 -- ---- folds that agree below n
 pub folded_same : (n : ℕ) (a b : ℕ → ℤ) (x y : ℕ → ℚ) → ((k : ℕ) → k < n → a k ≡ b k) → ((k : ℕ) → k < n → x k ≡ y k) → folded n a x ≡ folded n b y
@@ -23,7 +24,7 @@ folded_same (suc n) a b x y h g =
     ∙ ap₂ (λ c z. option_and_then (λ s. added s c z) (folded n b y)) (h n (omega arith)) (g n (omega arith))
 
 -- ---- numbers that are 0 add nothing
-folded-step : (n : ℕ) (a : ℕ → ℤ) (x : ℕ → ℚ) → folded (suc n) a x ≡ option_and_then (λ s. added s (a n) (x n)) (folded n a x)
+pub folded-step : (n : ℕ) (a : ℕ → ℤ) (x : ℕ → ℚ) → folded (suc n) a x ≡ option_and_then (λ s. added s (a n) (x n)) (folded n a x)
 unfolding folded
 folded-step n a x = refl
 
@@ -43,10 +44,6 @@ folded-zeros n m a x l z =
     ap (λ i. folded i a x) (sym k) ∙ folded-over n (m - n) a x (λ i li h. z i li (omega arith))
 
 -- ---- the sum over items, from a sum on
-abbrev pub items_sum : (ℕ → ℤ) → Option ℚ → List Item → Option ℚ
-items_sum a s [] = s
-items_sum a s (i ∷ is) = items_sum a (option_and_then (λ t. added t (a i.index) (value i.value)) s) is
-
 pub items_sum-none : (a : ℕ → ℤ) (is : List Item) → items_sum a None is ≡ None
 items_sum-none a [] = refl
 items_sum-none a (i ∷ is) = items_sum-none a is

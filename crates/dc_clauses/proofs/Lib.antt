@@ -1,5 +1,6 @@
 pub mod Tests
 pub mod Items
+pub mod ItemSums
 pub mod Walks
 pub mod Parts
 pub mod Entries

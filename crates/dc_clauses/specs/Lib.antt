@@ -4,3 +4,4 @@ pub mod Hyps
 pub mod Sides
 pub mod Lent
 pub mod Mains
+pub mod Items

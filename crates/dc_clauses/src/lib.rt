@@ -6,6 +6,7 @@ mod edges;
 mod families;
 mod hyps;
 mod keeps;
+pub mod laws;
 mod lines;
 mod shape;
 mod step;

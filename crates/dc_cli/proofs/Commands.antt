@@ -27,7 +27,8 @@ use Rattle.dc_certtext.specs.ReadFaults.{IsReadFault}
 use Rattle.dc_lines.specs.Texts.{IsBadLine}
 use Rattle.dc_words.specs.Reading.{Reading, for_analyse, for_check, for_sample, IsReading}
 use Rattle.dc_session.specs.declared.fault.AnalyseFault.{AnalyseFault}
-use Rattle.dc_session.specs.Answers.{AreSettings, IsInput, TellsCertificate, IsFault}
+use Rattle.dc_cert.specs.Settings.{AreSettings}
+use Rattle.dc_session.specs.Answers.{IsInput, TellsCertificate, IsFault}
 use Rattle.dc_acceptance.proofs.Certificates.{made_are_certificates}
 use Rattle.dc_check.specs.declared.fault.CheckFault.{CheckFault}
 use Rattle.dc_check.specs.Answers as checks

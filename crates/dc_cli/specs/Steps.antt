@@ -3,7 +3,7 @@ use Rattle.std.specs.Prelude.{◌≡◌, ℕ, ◌≤◌, List, [], false, Option
 use Rattle.std.specs.String.{string_bytes}
 use Rattle.dc_lines.specs.Bytes.{Bytes}
 use Rattle.dc_lp.specs.Meanings.{Meaning}
-use Rattle.dc_session.specs.Answers.{AreSettings}
+use Rattle.dc_cert.specs.Settings.{AreSettings}
 use Rattle.dc_words.specs.Reading.{Reading, for_analyse, for_check, for_sample, takes_words, IsReading}
 use Rattle.dc_answers.specs.declared.refusal.Refusal.{Refusal}
 use Rattle.dc_answers.specs.declared.refusal.Refusal.TheVariants.{Usage, Unread, Unwritten, NoMemory}

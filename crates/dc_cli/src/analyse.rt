@@ -2,7 +2,8 @@
 ghost use Rattle.std.specs.Prelude.{◌≡◌, ◌≤◌, Some, IfOk, IfErr, option_map};
 ghost use Rattle.dc_lp.specs.Meanings.{Meaning};
 ghost use Rattle.dc_cert.specs.Ranges.{IsCertificate};
-ghost use Rattle.dc_session.specs.Answers.{AreSettings, TellsCertificate};
+ghost use Rattle.dc_cert.specs.Settings.{AreSettings};
+ghost use Rattle.dc_session.specs.Answers.{TellsCertificate};
 ghost use Rattle.dc_sparse.specs.Meanings.{cross_meaning};
 ghost use Rattle.dc_words.specs.Reading.{for_analyse};
 ghost use Rattle.dc_answers.specs.Ends.{output, Printed, AnalyseEnds, IsWritten, input_of, of_analysis};

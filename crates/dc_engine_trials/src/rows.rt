@@ -1,6 +1,7 @@
 //! What is analysed, and how.
 ghost use Rattle.std.specs.Prelude.{IfOk};
-ghost use Rattle.dc_session.specs.Answers.{AreSettings, IsInput};
+ghost use Rattle.dc_cert.specs.Settings.{AreSettings};
+ghost use Rattle.dc_session.specs.Answers.{IsInput};
 ghost use Rattle.dc_engine.specs.Inputs.{input};
 
 use dc_affine::Atom;

@@ -25,7 +25,8 @@ use Rattle.dc_words.specs.Reading.{Search, Reading, for_analyse, for_check, for_
 use Rattle.dc_session.specs.declared.fault.AnalyseFault.{AnalyseFault}
 use Rattle.dc_session.specs.Session.{Input}
 use Rattle.dc_session.specs.Refusals.{IsRefusal}
-use Rattle.dc_session.specs.Answers.{AreSettings, IsInput, TellsCertificate}
+use Rattle.dc_cert.specs.Settings.{AreSettings}
+use Rattle.dc_session.specs.Answers.{IsInput, TellsCertificate}
 use Rattle.dc_acceptance.proofs.Certificates.{made_are_certificates}
 use Rattle.dc_endings.specs.Laws.{IsChecked}
 use Rattle.dc_endings.proofs.Ends.{each_ends}

@@ -1,10 +1,11 @@
 -- A test that each kind of token in the list of all passes is passed by each kind.
-use Rattle.std.proofs.Common.{◌≡◌, ℕ, zero, suc, Bool, true, nat_eq, List, [], ◌∷◌, get_or, refl, ap, sym, ◌∙◌, subst, arith}
+use Rattle.std.proofs.Common.{◌≡◌, ℕ, zero, suc, Bool, true, false, ◌||◌, nat_eq, List, [], ◌∷◌, get_or, refl, ap, sym, ◌∙◌, subst, arith}
 use Rattle.std.proofs.lemmas.Bool.Decides.{nat_tests}
 use Rattle.dc_tokens.specs.declared.token.TokenKind.{TokenKind}
 use Rattle.dc_tokens.specs.declared.token.TokenKind.TheVariants as k
 use Rattle.dc_tokens.specs.declared.token.Token.{Token}
 use Rattle.dc_grammar.specs.Kinds.{number, is, kinds}
+use Rattle.dc_grammar.specs.Grammar.{has}
 use Rattle.dc_grammar.specs.Lookahead.{every}
 use Rattle.dc_grammar.proofs.Tests.{and_left, and_right}
 
@@ -70,6 +71,14 @@ equal a b h = grind (arith, nat_tests)
 -- kinds with the same number are the same
 pub same_kind : (i j : TokenKind) → is i j ≡ true → i ≡ j
 same_kind i j h = sym (kind_at i) ∙ (ap (λ n. get_or kinds n k.Name) (equal (number i) (number j) h) ∙ kind_at j)
+
+only : (b : Bool) → b || false ≡ true → b ≡ true
+only true h = refl
+only false h = h
+
+-- a kind among one
+pub one_kind : (j i : TokenKind) → has is (j ∷ []) i ≡ true → i ≡ j
+one_kind j i h = sym (same_kind j i (only (is j i) h))
 
 -- each kind has a token
 pub some_token : (j : TokenKind) → (t : Token) × (t.kind ≡ j)

@@ -10,3 +10,5 @@ pub mod Total
 pub mod Verdicts
 pub mod Right
 pub mod Deepening
+pub mod Nesting
+pub mod Standing

@@ -6,5 +6,7 @@ pub mod Lookahead
 pub mod Readers
 pub mod Trees
 pub mod Depth
+pub mod Nesting
+pub mod Standing
 pub mod Verdicts
 pub mod Laws

@@ -3,7 +3,9 @@ ghost use Rattle.dc_grammar.specs.Depth.{IsDeep};
 ghost use Rattle.dc_grammar.specs.Language.{language};
 ghost use Rattle.dc_grammar.specs.Laws.{ReadsRight};
 ghost use Rattle.dc_grammar.specs.Lookahead.{LooksAhead};
+ghost use Rattle.dc_grammar.specs.Nesting.{CountsOpen};
 ghost use Rattle.dc_grammar.specs.Readers.{language_reader};
+ghost use Rattle.dc_grammar.specs.Standing.{CountsOperators};
 ghost use Rattle.dc_grammar.specs.Trees.{HasOneTree};
 ghost use Rattle.dc_grammar.specs.Verdicts.{HasOneVerdict};
 
@@ -33,3 +35,16 @@ pub fn one_language_verdict(tokens: &[Token])
 {
     let _ = tokens;
 }
+
+/// In what begins a text of a name each closing bracket closes the last one that is open, and the scan counts those
+/// that stay open.
+pub fn the_scan_counts_open_brackets()
+    ensures { CountsOpen }
+{}
+
+/// In an expression, a condition or a choice of a text the scan counts the operators since its start, and each
+/// operator stands in one. So what begins a text is too deep first with a token that opens a 65th bracket, or that
+/// is the 65th operator of its expression, condition or choice, and with each such token it is too deep.
+pub fn the_scan_counts_operators()
+    ensures { CountsOperators }
+{}

@@ -1,11 +1,11 @@
 -- What an analysis answers: the certificate that the outcomes of its session give, or its first refusal.
-use Rattle.std.specs.Prelude.{◌≡◌, ◌⊎◌, ◌≤◌}
+use Rattle.std.specs.Prelude.{◌≡◌, ◌⊎◌}
 use Rattle.dc_math.specs.Rational.{ℚ}
 use Rattle.dc_syntax.specs.Params.{HaveSameParams}
 use Rattle.dc_lp.specs.Tables.{Table}
 use Rattle.dc_lp.specs.Meanings.{Meaning, resting}
 use Rattle.dc_program.specs.Programs.{IsProgram, IsCondition}
-use Rattle.dc_cert.specs.declared.certificate.Settings.{Settings}
+use Rattle.dc_cert.specs.Settings.{AreSettings}
 use Rattle.dc_cert.specs.declared.certificate.Certificate.{Certificate}
 use Rattle.dc_cert.specs.Claims.{claim_of}
 use Rattle.dc_check.specs.Answers.{Accepts}
@@ -14,14 +14,6 @@ use Rattle.dc_session.specs.declared.fault.AnalyseFault.TheVariants.{NoMemory}
 use Rattle.dc_session.specs.Session.{Input, Analysis}
 use Rattle.dc_session.specs.Made.{IsMade}
 use Rattle.dc_session.specs.Refusals.{IsThrough, IsRefusal}
-
--- settings within their limits
-pub record AreSettings (s : Settings) : Type 0 where
-  pub degree : s.degree ≤ 3
-  pub some_products : 1 ≤ s.products
-  pub few_products : s.products ≤ 3
-  pub some_pivots : 1 ≤ s.pivots
-  pub few_pivots : s.pivots ≤ 1000000
 
 -- two programs with the same parameters, a condition over these, and such settings
 pub record IsInput (i : Input) : Type 0 where

@@ -6,4 +6,4 @@ pub mod Settings
 pub mod Walks
 pub mod Faults
 pub mod Independent
-mod Unique
+pub mod Unique

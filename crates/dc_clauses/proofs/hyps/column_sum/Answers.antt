@@ -4,7 +4,8 @@ use mir.Syntax.{w128}
 use Rattle.dc_math.specs.Rational.{of_ℤ}
 use Rattle.dc_frac.specs.Value.{value}
 use Rattle.dc_clauses.specs.Lines.{part}
-use Rattle.dc_clauses.proofs.Items.{items_sum, items_sum-folded, sum_more, sum_past, sum_ends}
+use Rattle.dc_clauses.specs.Items.{items_sum}
+use Rattle.dc_clauses.proofs.Items.{items_sum-folded, sum_more, sum_past, sum_ends}
 use Rattle.dc_clauses.proofs.hyps.column_sum.Goals as goal
 
 pub returns-in_err-sum : goal.returns-in_err-sum

@@ -7,7 +7,8 @@ use Rattle.dc_affine.specs.declared.atom.Atom.{Atom}
 use Rattle.dc_clauses.specs.Hyps.{atoms_of}
 use Rattle.dc_clauses.specs.Lines.{part}
 use Rattle.dc_clauses.proofs.Parts.{row}
-use Rattle.dc_clauses.proofs.Items.{items_sum, items_sum-folded, sum_more, sum_past, sum_ends}
+use Rattle.dc_clauses.specs.Items.{items_sum}
+use Rattle.dc_clauses.proofs.Items.{items_sum-folded, sum_more, sum_past, sum_ends}
 use Rattle.dc_clauses.proofs.hyps.part_sum.Goals as goal
 
 pub returns-in_err-sum : goal.returns-in_err-sum

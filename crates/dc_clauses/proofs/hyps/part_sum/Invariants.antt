@@ -2,7 +2,7 @@ use Rattle.std.proofs.Common.{◌≡◌, Some, drop, pos}
 use Rattle.dc_math.specs.Rational.{of_ℤ}
 use Rattle.dc_frac.specs.Value.{value}
 use Rattle.dc_clauses.specs.Hyps.{atoms_of}
-use Rattle.dc_clauses.proofs.Items.{items_sum}
+use Rattle.dc_clauses.specs.Items.{items_sum}
 use Rattle.dc_clauses.proofs.Parts.{row}
 use Rattle.dc_clauses.proofs.hyps.part_sum.Given as goal
 
