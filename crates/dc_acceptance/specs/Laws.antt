@@ -1,5 +1,5 @@
--- What is made is accepted: of the certificate that an analysis makes, the checker refuses a sum that doesn't
--- fit, and nothing else.
+-- What is made is accepted: of the certificate that an analysis makes, the checker refuses a sum
+-- that doesn't fit, and nothing else.
 use Rattle.std.specs.Prelude.{ℕ, false, Option, Some}
 use Rattle.dc_syntax.specs.declared.tree.Side.{Side}
 use Rattle.dc_syntax.specs.declared.tree.Count.{Count}
@@ -21,8 +21,8 @@ use Rattle.dc_session.specs.Made.{IsMade}
 use Rattle.dc_session.specs.Refusals.{IsThrough, IsRefusal}
 use Rattle.dc_session.specs.Answers.{IsInput, TellsCertificate}
 
--- every problem of the analysis of the input comes to its end; this is the certificate that these give, with the
--- table at which the main one ends
+-- every problem of the analysis of the input comes to its end; this is the certificate that these
+-- give, with the table at which the main one ends
 pub record Makes (i : Input) (a : Analysis) (t : Table ℚ) (c : Certificate) : Type 0 where
   pub input : IsInput i
   pub through : IsThrough i a

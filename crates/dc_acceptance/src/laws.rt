@@ -1,8 +1,10 @@
-//! Laws of the certificate that an analysis makes. Each function has no code: what it ensures is the law.
+//! Laws of the certificate that an analysis makes. Each function has no code: what it ensures is
+//! the law.
 ghost use Rattle.dc_acceptance.specs.Laws.{AcceptedAreTold, FaultsAreFolds, MadeAreCertificates, MadeAreNarrow};
 ghost use Rattle.dc_acceptance.specs.Laws.{MadeAreTrue, MadeHaveSystems};
 
-/// The certificate is within the ranges that the checker asks for, and the systems that it speaks of are those of the analysis.
+/// The certificate is within the ranges that the checker asks for, and the systems that it speaks
+/// of are those of the analysis.
 pub fn made_are_certificates()
     ensures ranges { MadeAreCertificates }
     ensures systems { MadeHaveSystems }

@@ -1,4 +1,5 @@
--- The one answer of words and texts: an output with its status, or a refusal. Want of memory and faults of the outside are no part of it.
+-- The one answer of words and texts: an output with its status, or a refusal. Want of memory and
+-- faults of the outside are no part of it.
 use Rattle.std.specs.Prelude.{◌≡◌, ◌≢◌, ◌⊎◌, ℕ, ◌<◌, ◌≤◌, List, [], ◌∷◌, ◌++◌, length, true, false, codes, Option, Some, None}
 use Rattle.std.specs.Fmt.{decimal}
 use Rattle.dc_syntax.specs.declared.tree.Proc.{Proc}
@@ -46,11 +47,13 @@ pub data End : Type 0 where
   Refused : Refusal → End
 
 -- ---- of texts: what is wrong with them first, else the end of what they say
-pub data TextsEnd (x y : Bytes) (when : Option Bytes) (Of : Proc → Proc → List (List Atom) → End → Type 0) (end : End)
+pub data TextsEnd (x y : Bytes) (when : Option Bytes)
+    (Of : Proc → Proc → List (List Atom) → End → Type 0) (end : End)
     : Type 0 where
   misread : (at : Text) (w : Wrong) → Tells x y when (is_wrong at w) → end ≡ Refused (r.Source at w)
       → TextsEnd x y when Of end
-  understood : (new old : Proc) (cases : List (List Atom)) → Say x y when new old cases → Of new old cases end
+  understood : (new old : Proc) (cases : List (List Atom)) → Say x y when new old cases
+      → Of new old cases end
       → TextsEnd x y when Of end
 
 -- ---- an analysis: its first refusal, or what is shown of its certificate
@@ -63,13 +66,16 @@ of_analysis analyse.NoMemory = r.NoMemory
 
 pub data InputEnds (i : Input) (Shows : Meaning → Certificate → End → Type 0) (end : End) : Type 0 where
   stops : (f : AnalyseFault) → IsRefusal i f → end ≡ Refused (of_analysis f) → InputEnds i Shows end
-  shows : (left : Meaning) (c : Certificate) → TellsCertificate i left c → Shows left c end → InputEnds i Shows end
+  shows : (left : Meaning) (c : Certificate) → TellsCertificate i left c → Shows left c end
+      → InputEnds i Shows end
 
 abbrev pub input_of : Settings → Proc → Proc → List (List Atom) → Input
 input_of s new old cases = record { new = new; old = old; cases = cases; settings = s }
 
-abbrev pub AnalysisEnds : Bytes → Bytes → Option Bytes → Settings → (Meaning → Certificate → End → Type 0) → End → Type 0
-AnalysisEnds x y when s Shows end = TextsEnd x y when (λ new old cases e. InputEnds (input_of s new old cases) Shows e) end
+abbrev pub AnalysisEnds : Bytes → Bytes → Option Bytes → Settings
+    → (Meaning → Certificate → End → Type 0) → End → Type 0
+AnalysisEnds x y when s Shows end =
+    TextsEnd x y when (λ new old cases e. InputEnds (input_of s new old cases) Shows e) end
 
 -- ---- analyse NEW OLD: the certificate's text, unless it is too long
 pub data IsWritten (left : Meaning) (c : Certificate) (end : End) : Type 0 where
@@ -88,15 +94,20 @@ of_check (check.Past128 clause index) = r.PastFold clause index
 of_check (check.TooLarge side what n) = r.TooLarge side what n
 of_check check.NoMemory = r.NoMemory
 
-pub data CertificateEnds (c : Certificate) (new old : Proc) (cases : List (List Atom)) (end : End) : Type 0 where
-  fails : (f : CheckFault) → f ≢ check.NoMemory → checks.IsFault new old cases c f → end ≡ Refused (of_check f)
+pub data CertificateEnds (c : Certificate) (new old : Proc) (cases : List (List Atom))
+    (end : End) : Type 0 where
+  fails : (f : CheckFault) → f ≢ check.NoMemory → checks.IsFault new old cases c f
+      → end ≡ Refused (of_check f)
       → CertificateEnds c new old cases end
   holds : checks.Accepts new old cases c (claim_of c.body)
-      → end ≡ Printed (output status.accepted (accepted_text (claim_of c.body)) None) → CertificateEnds c new old cases end
+      → end ≡ Printed (output status.accepted (accepted_text (claim_of c.body)) None)
+        → CertificateEnds c new old cases end
 
 pub data CheckEnds (x y z : Bytes) (when : Option Bytes) (end : End) : Type 0 where
-  no_text : (line : ℕ) → IsBadLine HasText limit z line → end ≡ Refused (r.BadCertificate line) → CheckEnds x y z when end
-  has_text : (c : Certificate) → HasText c z → length z ≤ limit → TextsEnd x y when (CertificateEnds c) end
+  no_text : (line : ℕ) → IsBadLine HasText limit z line → end ≡ Refused (r.BadCertificate line)
+      → CheckEnds x y z when end
+  has_text : (c : Certificate) → HasText c z → length z ≤ limit
+      → TextsEnd x y when (CertificateEnds c) end
       → CheckEnds x y z when end
 
 -- ---- sample SEED COUNT: four lines on the analysis of a generated pair; the length of the certificate's text is not judged
@@ -121,11 +132,13 @@ sample_text seed n k =
 
 abbrev pub IsSummed : ℕ → ℕ → Meaning → Certificate → End → Type 0
 IsSummed seed n left c end =
-    end ≡ Printed (output (claim_status (claim_of c.body)) (sample_text seed n (claim_of c.body)) (Some left))
+    end ≡ Printed (output (claim_status (claim_of c.body)) (sample_text seed n (claim_of c.body))
+      (Some left))
 
 abbrev pub SampleEnds : ℕ → ℕ → End → Type 0
 SampleEnds seed n end =
-    AnalysisEnds (new_source seed n) (old_source seed n) (Some sample_condition) sample_settings (IsSummed seed n) end
+    AnalysisEnds (new_source seed n) (old_source seed n) (Some sample_condition) sample_settings
+      (IsSummed seed n) end
 
 -- ---- of what words ask for: a new command adds a line to each of these
 abbrev pub settings_of : Search → Settings
@@ -140,14 +153,16 @@ ReadingEnds read texts end = ⊥
 -- the files whose texts are wanted, in order
 abbrev pub files_of : Reading → List File
 files_of (for_analyse new old when s) = file new source_limit ∷ file old source_limit ∷ []
-files_of (for_check new old cert when) = file new source_limit ∷ file old source_limit ∷ file cert limit ∷ []
+files_of (for_check new old cert when) =
+    file new source_limit ∷ file old source_limit ∷ file cert limit ∷ []
 files_of (for_sample seed n) = []
 
 -- ---- of words
 -- words that are no command name no file
 abbrev pub Names : List Bytes → List File → Type 0
 Names words files =
-    ((takes_words words ≡ false) × (files ≡ [])) ⊎ ((read : Reading) × IsReading words read × (files ≡ files_of read))
+    ((takes_words words ≡ false) × (files ≡ []))
+      ⊎ ((read : Reading) × IsReading words read × (files ≡ files_of read))
 
 -- the answer of words, and of the texts of the files that they name
 pub data Answers (words texts : List Bytes) (end : End) : Type 0 where

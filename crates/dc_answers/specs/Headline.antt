@@ -1,7 +1,8 @@
 -- What an output means.
 --
--- If the program prints threshold t, every finished run of the new version costs at most t more than every finished run of the old on the same
--- allowed input, and no certificate of the stated degrees over the printed invariants shows less; `none` is printed only where no such certificate
+-- If the program prints threshold t, every finished run of the new version costs at most t more
+-- than every finished run of the old on the same allowed input, and no certificate of the stated
+-- degrees over the printed invariants shows less; `none` is printed only where no such certificate
 -- exists, `vacuous` only where no allowed input finishes in both.
 use Rattle.std.specs.Prelude.{◌≡◌, ℕ, true, List, [], ◌∷◌, ◌++◌, ℤ, ◌-ℤ◌, Option, Some, None}
 use Rattle.dc_math.specs.Rational.{ℚ, ◌≤ℚ◌, of_ℤ}
@@ -61,13 +62,15 @@ HasNoRuns new old when = (c d : ℤ) → ¬ AreRuns new old when c d
 
 -- ---- claims, of runs and over the atoms of a pair, for potentials of degree d and products of at most k atoms
 abbrev pub ClaimMeans : Proc → Proc → Option Bytes → Pair → ℕ → ℕ → Claim → Type 0
-ClaimMeans new old when p d k (Threshold t) = BoundsRuns new old when (value t) × IsLeast p d k (value t)
+ClaimMeans new old when p d k (Threshold t) =
+    BoundsRuns new old when (value t) × IsLeast p d k (value t)
 ClaimMeans new old when p d k Nothing = HasNoCertificate p d k
 ClaimMeans new old when p d k Vacuous = HasNoRuns new old when × IsVacuous p d k
 
 -- ---- the invariants that are printed
 -- of a folded system: the printed atoms of its greatest inductive family
-pub record ArePrintedOf (s : Graph) (cases : List (List Atom)) (c : Candidates) (atoms : List (List Atom)) : Type 0 where
+pub record ArePrintedOf (s : Graph) (cases : List (List Atom)) (c : Candidates)
+    (atoms : List (List Atom)) : Type 0 where
   pub family : Family
   pub greatest : IsGreatest s cases c family
   pub questions : List (List Question)
@@ -79,12 +82,16 @@ pub record HasInvariants (i : Input) (c : Certificate) : Type 0 where
   pub old_system : System
   pub new_folded : IsFolded (system_of i.new) new_system
   pub old_folded : IsFolded (system_of i.old) old_system
-  pub new_atoms : ArePrintedOf (graph_of new_system) i.cases (candidates_for i i.new) c.new_side.families
-  pub old_atoms : ArePrintedOf (graph_of old_system) i.cases (candidates_for i i.old) c.old_side.families
+  pub new_atoms : ArePrintedOf (graph_of new_system) i.cases
+      (candidates_for i i.new) c.new_side.families
+  pub old_atoms : ArePrintedOf (graph_of old_system) i.cases
+      (candidates_for i i.old) c.old_side.families
 
 -- ---- analyses
--- what the texts say, the invariants, and what the certificate claims over these with the stated degrees
-pub record AnalysisMeans (x y : Bytes) (when : Option Bytes) (s : Settings) (c : Certificate) : Type 0 where
+-- what the texts say, the invariants, and what the certificate claims over these with the stated
+-- degrees
+pub record AnalysisMeans (x y : Bytes) (when : Option Bytes) (s : Settings)
+    (c : Certificate) : Type 0 where
   pub new : Proc
   pub old : Proc
   pub cases : List (List Atom)
@@ -92,14 +99,17 @@ pub record AnalysisMeans (x y : Bytes) (when : Option Bytes) (s : Settings) (c :
   pub invariants : HasInvariants (input_of s new old cases) c
   pub degree : c.degree ≡ s.degree
   pub products : c.products ≡ s.products
-  pub means : ClaimMeans new old when (pair invariants.new_system invariants.old_system cases c) s.degree s.products (claim_of c.body)
+  pub means : ClaimMeans new old when
+      (pair invariants.new_system invariants.old_system cases c) s.degree s.products
+      (claim_of c.body)
 
 -- bytes begin with a line
 abbrev pub BeginsWith : Bytes → Bytes → Type 0
 BeginsWith line bytes = (rest : Bytes) × (bytes ≡ line ++ 10 ∷ rest)
 
 -- what `analyse` prints: the text of a certificate, which begins with its claim, and the claim's status
-pub record AnalyseMeans (x y : Bytes) (when : Option Bytes) (s : Settings) (n : ℕ) (bytes : Bytes) : Type 0 where
+pub record AnalyseMeans (x y : Bytes) (when : Option Bytes) (s : Settings) (n : ℕ)
+    (bytes : Bytes) : Type 0 where
   pub certificate : Certificate
   pub text : HasText certificate bytes
   pub first : BeginsWith (claim_line (claim_of certificate.body)) bytes
@@ -111,9 +121,11 @@ pub record SampleMeans (seed count n : ℕ) (bytes : Bytes) : Type 0 where
   pub certificate : Certificate
   pub text : bytes ≡ sample_text seed count (claim_of certificate.body)
   pub status_is : n ≡ claim_status (claim_of certificate.body)
-  pub means : AnalysisMeans (new_source seed count) (old_source seed count) (Some sample_condition) sample_settings certificate
+  pub means : AnalysisMeans (new_source seed count) (old_source seed count)
+      (Some sample_condition) sample_settings certificate
 
--- what `check` prints: the claim of the certificate that was read, which is so over the certificate's own atoms
+-- what `check` prints: the claim of the certificate that was read, which is so over the
+-- certificate's own atoms
 pub record CheckMeans (x y z : Bytes) (when : Option Bytes) (n : ℕ) (bytes : Bytes) : Type 0 where
   pub certificate : Certificate
   pub read : HasText certificate z
@@ -126,7 +138,9 @@ pub record CheckMeans (x y z : Bytes) (when : Option Bytes) (n : ℕ) (bytes : B
   pub new_system : System
   pub old_system : System
   pub systems : HasSystems new old certificate.version new_system old_system
-  pub means : ClaimMeans new old when (pair new_system old_system cases certificate) certificate.degree certificate.products (claim_of certificate.body)
+  pub means : ClaimMeans new old when
+      (pair new_system old_system cases certificate) certificate.degree certificate.products
+      (claim_of certificate.body)
 
 -- ---- of what words ask for, over the texts of the files that they name
 abbrev pub Means : Reading → List Bytes → ℕ → Bytes → Type 0

@@ -12,13 +12,16 @@ use Rattle.dc_answers.specs.Ends.{Output, output, End, Printed, Names, Answers, 
 use Rattle.dc_answers.specs.Claims.{accepted_text}
 use Rattle.dc_answers.specs.Headline.{Means}
 
--- words name one list of files, and with the texts of these they have one answer: so status, bytes and line, and where the lent tableau is
--- left, are a function of the words and the texts
+-- words name one list of files, and with the texts of these they have one answer: so status, bytes
+-- and line, and where the lent tableau is left, are a function of the words and the texts
 abbrev pub OneList : Type 0
-OneList = (words : List Bytes) (files more : List File) → Names words files → Names words more → files ≡ more
+OneList =
+    (words : List Bytes) (files more : List File) → Names words files → Names words more
+    → files ≡ more
 
 abbrev pub OneAnswer : Type 0
-OneAnswer = (words texts : List Bytes) (a b : End) → Answers words texts a → Answers words texts b → a ≡ b
+OneAnswer =
+    (words texts : List Bytes) (a b : End) → Answers words texts a → Answers words texts b → a ≡ b
 
 -- what is printed means what the headline says
 pub record HasMeaning (words texts : List Bytes) (o : Output) : Type 0 where
@@ -27,13 +30,16 @@ pub record HasMeaning (words texts : List Bytes) (o : Output) : Type 0 where
   pub means : Means read texts o.status o.bytes
 
 abbrev pub OutputsMean : Type 0
-OutputsMean = (words texts : List Bytes) (o : Output) → Answers words texts (Printed o) → HasMeaning words texts o
+OutputsMean =
+    (words texts : List Bytes) (o : Output) → Answers words texts (Printed o)
+    → HasMeaning words texts o
 
 -- what `analyse` prints, `check` accepts on the same texts
 pub record IsAccepted (x y z : Bytes) (when : Option Bytes) : Type 0 where
   pub certificate : Certificate
   pub text : HasText certificate z
-  pub ends : CheckEnds x y z when (Printed (output status.accepted (accepted_text (claim_of certificate.body)) None))
+  pub ends : CheckEnds x y z when
+      (Printed (output status.accepted (accepted_text (claim_of certificate.body)) None))
 
 abbrev pub PrintedIsAccepted : Type 0
 PrintedIsAccepted = (x y : Bytes) (when : Option Bytes) (s : Settings) (o : Output)

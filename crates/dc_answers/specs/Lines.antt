@@ -71,10 +71,13 @@ kind_text k.NoMemory = codes "NoMemory"
 -- ---- the place of a problem
 abbrev pub place_text : Place → Bytes
 place_text (place.When c) = codes "when " ++ decimal c
-place_text (place.EntryRow s c n) = side_text s ++ (codes " entry case " ++ (decimal c ++ (codes " row " ++ decimal n)))
+place_text (place.EntryRow s c n) =
+    side_text s ++ (codes " entry case " ++ (decimal c ++ (codes " row " ++ decimal n)))
 place_text (place.Edge s e) = side_text s ++ (codes " edge " ++ decimal e)
-place_text (place.EdgeRow s e n) = side_text s ++ (codes " edge " ++ (decimal e ++ (codes " row " ++ decimal n)))
-place_text (place.Prune s l n) = side_text s ++ (codes " prune " ++ (decimal l ++ (codes " row " ++ decimal n)))
+place_text (place.EdgeRow s e n) =
+    side_text s ++ (codes " edge " ++ (decimal e ++ (codes " row " ++ decimal n)))
+place_text (place.Prune s l n) =
+    side_text s ++ (codes " prune " ++ (decimal l ++ (codes " row " ++ decimal n)))
 place_text (place.KeptEntry s c a) =
     side_text s ++ (codes " kept entry case " ++ (decimal c ++ (codes " atom " ++ decimal a)))
 place_text (place.KeptEdge s e) = side_text s ++ (codes " kept edge " ++ decimal e)
@@ -113,21 +116,27 @@ source_line at wrong =
     ++ (decimal (column_in wrong) ++ (codes " " ++ (wrong_text wrong ++ codes "\n")))))))
 
 abbrev pub large_line : Option Side → Count → ℕ → Bytes
-large_line None what n = codes "too large: " ++ (count_text what ++ (codes " " ++ (decimal n ++ codes "\n")))
+large_line None what n =
+    codes "too large: " ++ (count_text what ++ (codes " " ++ (decimal n ++ codes "\n")))
 large_line (Some s) what n =
-    codes "too large: " ++ (side_text s ++ (codes " " ++ (count_text what ++ (codes " " ++ (decimal n ++ codes "\n")))))
+    codes "too large: " ++ (side_text s
+      ++ (codes " " ++ (count_text what ++ (codes " " ++ (decimal n ++ codes "\n")))))
 
 abbrev pub pivot_line : Place → ℕ → Bytes
-pivot_line p n = codes "past 128 bits: " ++ (place_text p ++ (codes " pivot " ++ (decimal n ++ codes "\n")))
+pivot_line p n =
+    codes "past 128 bits: " ++ (place_text p ++ (codes " pivot " ++ (decimal n ++ codes "\n")))
 
 abbrev pub fold_line : ℕ → ℕ → Bytes
-fold_line c i = codes "past 128 bits: check clause " ++ (decimal c ++ (codes " index " ++ (decimal i ++ codes "\n")))
+fold_line c i =
+    codes "past 128 bits: check clause "
+    ++ (decimal c ++ (codes " index " ++ (decimal i ++ codes "\n")))
 
 abbrev pub spent_line : Place → Bytes
 spent_line p = codes "pivots spent: " ++ (place_text p ++ codes "\n")
 
 abbrev pub rejected_line : ℕ → ℕ → Bytes
-rejected_line c i = codes "rejected: clause " ++ (decimal c ++ (codes " index " ++ (decimal i ++ codes "\n")))
+rejected_line c i =
+    codes "rejected: clause " ++ (decimal c ++ (codes " index " ++ (decimal i ++ codes "\n")))
 
 abbrev pub line_of : Refusal → Bytes
 line_of r.Usage = usage_text

@@ -6,7 +6,8 @@ use Rattle.dc_host.specs.Outside.{Files, Answer, Rose, IsTextOf, IsAbsent, appen
 use Rattle.dc_host.specs.declared.store.StoreFault.TheVariants.{Missing, Failed}
 use Rattle.dc_lines.specs.Bytes.{Bytes}
 
--- a file that is wanted, and how many bytes its text has at most; one more is asked for, so that a longer one shows
+-- a file that is wanted, and how many bytes its text has at most; one more is asked for, so that a
+-- longer one shows
 pub record File : Type 0 where
   pub name : Bytes
   pub limit : ℕ
@@ -18,25 +19,30 @@ abbrev pub source_limit : ℕ
 source_limit = 65536
 
 -- ---- the calls of a store, in order
--- which calls a kind of store answers how: the store before, the name, the limit, the answer, the store after
+-- which calls a kind of store answers how: the store before, the name, the limit, the answer, the
+-- store after
 abbrev pub Calls : Type 0 → Type 1
 Calls S = S → Bytes → ℕ → Answer → S → Type 0
 
 -- a call handed out this text
 abbrev pub Gives : {S : Type 0} → Calls S → S → S → File → Bytes → Type 0
-Gives call before after f text = (v : Vec ℕ Global) × (v.items ≡ text) × call before f.name f.limit (Ok v) after
+Gives call before after f text =
+    (v : Vec ℕ Global) × (v.items ≡ text) × call before f.name f.limit (Ok v) after
 
 -- a call handed out none, and not for want of memory
 abbrev pub Denies : {S : Type 0} → Calls S → S → S → File → Type 0
-Denies call before after f = call before f.name f.limit (Err Missing) after ⊎ call before f.name f.limit (Err Failed) after
+Denies call before after f =
+    call before f.name f.limit (Err Missing) after ⊎ call before f.name f.limit (Err Failed) after
 
 -- each file was asked for in its turn, nothing else was, and these texts were handed out
 abbrev pub HandsOut : {S : Type 0} → Calls S → S → S → List File → List Bytes → Type 0
 HandsOut call before after [] [] = before ≡ after
-HandsOut {S} call before after (f ∷ fs) (x ∷ xs) = (middle : S) × Gives call before middle f x × HandsOut call middle after fs xs
+HandsOut {S} call before after (f ∷ fs) (x ∷ xs) =
+    (middle : S) × Gives call before middle f x × HandsOut call middle after fs xs
 HandsOut call before after fs xs = ⊥
 
--- the files before one of this name were handed out in their turn, it was not, and nothing was asked for after it
+-- the files before one of this name were handed out in their turn, it was not, and nothing was
+-- asked for after it
 abbrev pub Stops : {S : Type 0} → Calls S → S → S → List File → Bytes → Type 0
 Stops call before after [] name = ⊥
 Stops {S} call before after (f ∷ fs) name =
@@ -103,7 +109,8 @@ AreTexts told fs xs = ⊥
 -- the files are told, or there are none, and have these texts
 abbrev pub AreTold : Option Files → List File → List Bytes → Type 0
 AreTold told [] [] = Unit {0}
-AreTold (Some files) (f ∷ fs) (x ∷ xs) = IsTextOf (Some files) f.name f.limit x × AreTold (Some files) fs xs
+AreTold (Some files) (f ∷ fs) (x ∷ xs) =
+    IsTextOf (Some files) f.name f.limit x × AreTold (Some files) fs xs
 AreTold told fs xs = ⊥
 
 -- one of the files isn't there

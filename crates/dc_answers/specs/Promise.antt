@@ -21,7 +21,8 @@ pub record AreHandedOut (o : Outside) (texts : List Bytes) : Type 0 where
   pub theirs : AreTexts o.store.files files texts
 
 -- ---- 1. the headline
--- with status 0, 1 or 2 bytes were added to the output that mean, of the texts that were handed out, what the headline says
+-- with status 0, 1 or 2 bytes were added to the output that mean, of the texts that were handed
+-- out, what the headline says
 pub record SaysHeadline (o : Outside) (n : ℕ) : Type 0 where
   pub read : Reading
   pub asked : IsReading o.words read
@@ -91,12 +92,15 @@ abbrev pub IsCalm : Visit → List File → Type 0
 IsCalm store [] = Unit {0}
 IsCalm store (f ∷ fs) = ¬ Rose store.faults store.later
 
--- a refusal ends with its status, an output with its own and with its bytes, where no fault of the output was counted
+-- a refusal ends with its status, an output with its own and with its bytes, where no fault of the
+-- output was counted
 abbrev pub IsEnd : Outside → ℕ → End → Type 0
 IsEnd o n (Refused refusal) = n ≡ status_of refusal
-IsEnd o n (Printed output) = ¬ Rose o.out.faults o.out.later → (n ≡ output.status) × Gains o.out output.bytes
+IsEnd o n (Printed output) =
+    ¬ Rose o.out.faults o.out.later → (n ≡ output.status) × Gains o.out output.bytes
 
--- where the files are told and no fault is counted, the call comes to the answer of the words and texts, or memory ran out
+-- where the files are told and no fault is counted, the call comes to the answer of the words and
+-- texts, or memory ran out
 abbrev pub Completes : Outside → ℕ → Type 0
 Completes o n = (files : List File) (texts : List Bytes) (end : End) → Names o.words files
     → AreTold o.store.files files texts → IsCalm o.store files → Answers o.words texts end
@@ -108,5 +112,6 @@ FindsMissing o n = (files : List File) → Names o.words files → IsMissing o.s
     → (n ≡ status.read_fault) ⊎ (n ≡ status.no_memory)
 
 -- ---- 4. premises
--- All of this is said of the texts that the store handed out and of the bytes that the sinks took, as far as they tell them. Over real files
--- and streams, which tell neither, it is read so: of the bytes that the system gave and took.
+-- All of this is said of the texts that the store handed out and of the bytes that the sinks took,
+-- as far as they tell them. Over real files and streams, which tell neither, it is read so: of the
+-- bytes that the system gave and took.

@@ -17,7 +17,8 @@ use Rattle.dc_answers.specs.declared.refusal.Wrong.TheVariants.{Parse, Parameter
 abbrev pub SaysProgram : Bytes → Proc → Type 0
 SaysProgram x p = SourceOutcome x (says p)
 
--- a condition's text says these cases over the parameters of a procedure; no condition is the one case without atoms
+-- a condition's text says these cases over the parameters of a procedure; no condition is the one
+-- case without atoms
 abbrev pub SaysCases : Option Bytes → Proc → List (List Atom) → Type 0
 SaysCases None p cases = cases ≡ [] ∷ []
 SaysCases (Some z) p cases = ConditionOutcome (params_of p) z (says cases)
@@ -44,7 +45,8 @@ pub data Told : Type 0 where
 
 -- the new version's text, the old one's, the parameters, and then the condition
 pub data Tells (x y : Bytes) (when : Option Bytes) (o : Told) : Type 0 where
-  new_wrong : (f : ParseFault) → IsFaultIn (SourceOutcome x) x f → o ≡ is_wrong New (Parse f) → Tells x y when o
+  new_wrong : (f : ParseFault) → IsFaultIn (SourceOutcome x) x f → o ≡ is_wrong New (Parse f)
+      → Tells x y when o
   old_wrong : (p : Proc) → SaysProgram x p → (f : ParseFault) → IsFaultIn (SourceOutcome y) y f
       → o ≡ is_wrong Old (Parse f) → Tells x y when o
   differ : (p q : Proc) → SaysProgram x p → SaysProgram y q → ¬ HaveSameParams p q

@@ -1,4 +1,5 @@
-//! What the program answers: which output words and texts have, or which refusal with its line, and what an output means.
+//! What the program answers: which output words and texts have, or which refusal with its line, and
+//! what an output means.
 //!
 //! The crate has no function that computes: it is the type of refusals, definitions and laws.
 //!

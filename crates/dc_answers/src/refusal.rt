@@ -33,7 +33,8 @@ pub enum Refusal {
     },
     /// A text is wrong.
     Source(Text, Wrong),
-    /// A count of one program, of the main problem where no side is named, or of the certificate's bytes passes its limit.
+    /// A count of one program, of the main problem where no side is named, or of the certificate's
+    /// bytes passes its limit.
     TooLarge {
         side: Option<Side>,
         what: Count,

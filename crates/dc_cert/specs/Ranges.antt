@@ -48,9 +48,11 @@ pub record IsSide (cases : ℕ) (s : SideCert) : Type 0 where
   pub exit_line : IsShown s.exit_line
 
 abbrev pub IsBody : Body → Type 0
-IsBody (Threshold t unknown lambda dual) = IsSmall t.den × IsVector unknown × IsVector lambda × IsVector dual
+IsBody (Threshold t unknown lambda dual) =
+    IsSmall t.den × IsVector unknown × IsVector lambda × IsVector dual
 IsBody (Nothing dual) = IsVector dual
-IsBody (Vacuous unknown lambda ray_unknown ray_lambda) = IsVector unknown × IsVector lambda × IsVector ray_unknown × IsVector ray_lambda
+IsBody (Vacuous unknown lambda ray_unknown ray_lambda) =
+    IsVector unknown × IsVector lambda × IsVector ray_unknown × IsVector ray_lambda
 
 -- version 1 has one case, version 2 has 1 to 64
 abbrev pub HasCases : ℕ → ℕ → Type 0

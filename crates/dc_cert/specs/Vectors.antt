@@ -27,7 +27,9 @@ IsVector s = AreItems 0 s.items
 -- its values that are not 0, the first index being k
 abbrev pub nonzero_from : ℕ → List Frac → List Item
 nonzero_from k [] = []
-nonzero_from k (f ∷ fs) = cond (is_zero (value f)) (nonzero_from (suc k) fs) ((record { index = k; value = f }) ∷ nonzero_from (suc k) fs)
+nonzero_from k (f ∷ fs) =
+    cond (is_zero (value f)) (nonzero_from (suc k) fs)
+    ((record { index = k; value = f }) ∷ nonzero_from (suc k) fs)
 
 -- ---- to a whole vector
 abbrev pub IsBelow : ℕ → Item → Type 0
@@ -48,8 +50,12 @@ pub record IsDense (n : ℕ) (s : Sparse) (v : List Frac) : Type 0 where
 
 -- the items of a vector keep each value at its index
 abbrev pub KeepsEach : Type 0
-KeepsEach = (v : List Frac) (k : ℕ) (d : Frac) → k < length v → entry_of (nonzero_from 0 v) k ≡ value (slice_index_or v k d)
+KeepsEach =
+    (v : List Frac) (k : ℕ) (d : Frac) → k < length v
+    → entry_of (nonzero_from 0 v) k ≡ value (slice_index_or v k d)
 
 -- the items of the vector that items below its length stand for are these items
 abbrev pub ItemsReturn : Type 0
-ItemsReturn = (n : ℕ) (s : Sparse) (v : List Frac) → IsVector s → All (IsBelow n) s.items → IsDense n s v → nonzero_from 0 v ≡ s.items
+ItemsReturn =
+    (n : ℕ) (s : Sparse) (v : List Frac) → IsVector s → All (IsBelow n) s.items → IsDense n s v
+    → nonzero_from 0 v ≡ s.items

@@ -9,8 +9,8 @@ use dc_frac::Frac;
 use sqlite_items::Items;
 use std::alloc::{AllocError, Global};
 
-/// Whether a list of atoms has no rational point (`Dead`, with the multipliers that combine them to -1) or
-/// has one (`Live`, with a vector that names it).
+/// Whether a list of atoms has no rational point (`Dead`, with the multipliers that combine them to
+/// -1) or has one (`Live`, with a vector that names it).
 #[derive(Debug)]
 pub enum Liveness {
     Dead(Sparse),
@@ -49,8 +49,8 @@ impl Liveness {
     }
 }
 
-/// What is kept of an edge: whether its source's atoms with its guard are live, and for each atom of its
-/// target the multipliers that show it after the edge.
+/// What is kept of an edge: whether its source's atoms with its guard are live, and for each atom
+/// of its target the multipliers that show it after the edge.
 #[derive(Debug, Drop)]
 pub struct EdgeCert {
     pub live: Liveness,
@@ -68,8 +68,8 @@ impl EdgeCert {
     }
 }
 
-/// What is kept of one program: the atoms of each location; for each case of the condition the multipliers
-/// that show the atoms of location 0; the edges; and whether the exit's atoms are live.
+/// What is kept of one program: the atoms of each location; for each case of the condition the
+/// multipliers that show the atoms of location 0; the edges; and whether the exit's atoms are live.
 #[derive(Debug)]
 pub struct SideCert {
     pub families: Items<Items<Atom>>,
@@ -250,8 +250,8 @@ impl Drop for Certificate {
     }
 }
 
-/// What an analysis is asked for: the degree of the templates, the number of factors of a product, whether
-/// rows of two variables are candidates, and how many pivots a problem may take.
+/// What an analysis is asked for: the degree of the templates, the number of factors of a product,
+/// whether rows of two variables are candidates, and how many pivots a problem may take.
 #[derive(Clone, Copy, Debug, PartialEq, Eq)]
 pub struct Settings {
     pub degree: u8,

@@ -196,7 +196,8 @@ fn told(table: &[(usize, u64)], line: usize, other: u64) -> u64 {
     other
 }
 
-// Each line, by its place from 0 on, left out: the text is refused at the line behind it, unless the table says otherwise.
+// Each line, by its place from 0 on, left out: the text is refused at the line behind it, unless
+// the table says otherwise.
 fn left_out(
     alloc: Global,
     rt: &impl Abort,
@@ -250,7 +251,8 @@ fn moved(
     Ok(())
 }
 
-// Lines that may be missing or stand twice are those of atoms, keeps and edges; where the count is wrong, a later line tells.
+// Lines that may be missing or stand twice are those of atoms, keeps and edges; where the count is
+// wrong, a later line tells.
 #[test]
 fn lines_left_out(rt: HostRuntime) -> Result<(), Fail> {
     left_out(rt.alloc(), &rt, &SMALL, &[])?;
@@ -371,8 +373,8 @@ fn lines_of_claims(rt: HostRuntime) -> Result<(), Fail> {
     Ok(())
 }
 
-// How many lines stand before those that are turned into others, how many with them, the others, and the line that is refused, 0 where
-// none is.
+// How many lines stand before those that are turned into others, how many with them, the others,
+// and the line that is refused, 0 where none is.
 const CHANGES: [(usize, usize, &str, u64); 30] = [
     (0, 1, "threshold 1/2", 0),
     (0, 1, "threshold -1/2", 2),
@@ -480,7 +482,8 @@ fn a_text_that_is_too_long(rt: HostRuntime) -> Result<(), Fail> {
     Ok(())
 }
 
-// The next line has 81,725 bytes and one item more, whose digits fill the text up; behind it are 10 lines of 105 bytes.
+// The next line has 81,725 bytes and one item more, whose digits fill the text up; behind it are 10
+// lines of 105 bytes.
 fn filled_text(alloc: Global, item: &str) -> Result<String, AllocError> {
     let mut text = long_text(alloc)?;
     put_long_line(&mut text, 1816)?;

@@ -1,5 +1,5 @@
-//! Tests of certificates: their texts both ways, and sparse vectors. The crate has no function of its own; each text was written by hand from
-//! `docs/certificate.md`.
+//! Tests of certificates: their texts both ways, and sparse vectors. The crate has no function of
+//! its own; each text was written by hand from `docs/certificate.md`.
 #![tactic(auto)]
 
 #[cfg(test)]

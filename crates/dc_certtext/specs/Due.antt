@@ -1,4 +1,5 @@
--- The vectors of the main problem, one after another: the word of the one that is due, and what is read with it.
+-- The vectors of the main problem, one after another: the word of the one that is due, and what is
+-- read with it.
 use Rattle.std.specs.Prelude.{codes, Option, Some, None}
 use Rattle.dc_cert.specs.declared.sparse.Sparse.{Sparse}
 use Rattle.dc_cert.specs.declared.certificate.SideCert.{SideCert}
@@ -15,7 +16,15 @@ use Rattle.dc_cert.specs.declared.certificate.Body.{Body}
 use Rattle.dc_cert.specs.declared.certificate.Certificate.{Certificate}
 
 abbrev pub certificate : Head → SideCert → SideCert → Body → Certificate
-certificate h n o b = record { version = h.version; body = b; degree = h.degree; products = h.products; when = h.when; new_side = n; old_side = o }
+certificate h n o b = record {
+  version = h.version;
+  body = b;
+  degree = h.degree;
+  products = h.products;
+  when = h.when;
+  new_side = n;
+  old_side = o;
+}
 
 abbrev pub due : Claim → Found → Option Bytes
 due (C.Threshold t) F.None = Some (codes "unknown")

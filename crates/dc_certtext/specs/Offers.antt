@@ -39,8 +39,11 @@ Takes k (vector f) b t = (v : Sparse) × IsVector v × (k ++ vector_text v ≡ b
 Takes k (shown f) b t = (l : Liveness) × IsShown l × (k ++ shown_text l ≡ b) × (t ≡ f l)
 Takes k (atom f) b t = (a : Atom) × IsAtom 10 a × (k ++ atom_text a ≡ b) × (t ≡ f a)
 Takes k (fraction f) b t = (x : Frac) × IsSmall x.den × (k ++ frac_text x ≡ b) × (t ≡ f x)
-Takes k (number low high f) b t = (n : ℕ) × ((low ≤ n) × (n ≤ high) × (n ≤ 64)) × (k ++ decimal n ≡ b) × (t ≡ f n)
-Takes k (sizes f) b t = (d : ℕ) × (n : ℕ) × ((d ≤ 3) × (1 ≤ n) × (n ≤ 3)) × (k ++ (decimal d ++ (codes " products " ++ decimal n)) ≡ b) × (t ≡ f d n)
+Takes k (number low high f) b t =
+    (n : ℕ) × ((low ≤ n) × (n ≤ high) × (n ≤ 64)) × (k ++ decimal n ≡ b) × (t ≡ f n)
+Takes k (sizes f) b t =
+    (d : ℕ) × (n : ℕ) × ((d ≤ 3) × (1 ≤ n) × (n ≤ 3))
+    × (k ++ (decimal d ++ (codes " products " ++ decimal n)) ≡ b) × (t ≡ f d n)
 
 -- some offer is taken
 abbrev pub Any : List Offer → Bytes → Stage → Type 0

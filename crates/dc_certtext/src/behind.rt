@@ -27,7 +27,9 @@ pub(crate) fn vector_behind(
     line: &[u8],
     word: &[u8],
 ) -> Result<Option<Sparse>, AllocError>
-    ensures { IfOk result (λ o. MatchOption o ((s : Vector) → IsVector s → ¬ (word.now ++ vector_text s ≡ line.now)) (λ s. IsVector s × (word.now ++ vector_text s ≡ line.now))) }
+    ensures { IfOk result
+        (λ o. MatchOption o ((s : Vector) → IsVector s → ¬ (word.now ++ vector_text s ≡ line.now))
+        (λ s. IsVector s × (word.now ++ vector_text s ≡ line.now))) }
 {
     let Some(rest) = strip(line, word) else {
         return Ok(None);
@@ -45,7 +47,9 @@ pub(crate) fn shown_behind(
     line: &[u8],
     word: &[u8],
 ) -> Result<Option<Liveness>, AllocError>
-    ensures { IfOk result (λ o. MatchOption o ((l : Shown) → IsShown l → ¬ (word.now ++ shown_text l ≡ line.now)) (λ l. IsShown l × (word.now ++ shown_text l ≡ line.now))) }
+    ensures { IfOk result
+        (λ o. MatchOption o ((l : Shown) → IsShown l → ¬ (word.now ++ shown_text l ≡ line.now))
+        (λ l. IsShown l × (word.now ++ shown_text l ≡ line.now))) }
 {
     let Some(rest) = strip(line, word) else {
         return Ok(None);
@@ -62,7 +66,9 @@ pub(crate) fn shown_behind(
 // The fraction behind a word.
 #[tactic(auto, using(crate::proofs::Afterword::words))]
 pub(crate) fn fraction_behind(line: &[u8], word: &[u8]) -> Option<Frac>
-    ensures { MatchOption result ((f : Fraction) → IsSmall f.den → ¬ (word.now ++ frac_text f ≡ line.now)) (λ f. IsSmall f.den × (word.now ++ frac_text f ≡ line.now)) }
+    ensures { MatchOption result
+        ((f : Fraction) → IsSmall f.den → ¬ (word.now ++ frac_text f ≡ line.now))
+        (λ f. IsSmall f.den × (word.now ++ frac_text f ≡ line.now)) }
 {
     let Some(rest) = strip(line, word) else {
         return None;
@@ -76,7 +82,8 @@ pub(crate) fn fraction_behind(line: &[u8], word: &[u8]) -> Option<Frac>
 // The number behind a word.
 #[tactic(auto, using(crate::proofs::Afterword::words))]
 pub(crate) fn number_behind(line: &[u8], word: &[u8]) -> Option<u128>
-    ensures { MatchOption result ((n : ℕ) → n < 2 ^ 127 → ¬ (word.now ++ decimal n ≡ line.now)) (λ n. (n < 2 ^ 127) × (word.now ++ decimal n ≡ line.now)) }
+    ensures { MatchOption result ((n : ℕ) → n < 2 ^ 127 → ¬ (word.now ++ decimal n ≡ line.now))
+        (λ n. (n < 2 ^ 127) × (word.now ++ decimal n ≡ line.now)) }
 {
     let Some(rest) = strip(line, word) else {
         return None;
@@ -90,7 +97,9 @@ pub(crate) fn number_behind(line: &[u8], word: &[u8]) -> Option<u128>
 // The atom behind its word.
 #[tactic(auto, using(crate::proofs::Afterword::words))]
 pub(crate) fn atom_behind(alloc: Global, line: &[u8]) -> Result<Option<Atom>, AllocError>
-    ensures { IfOk result (λ o. MatchOption o ((a : Fact) → IsAtom 10 a → ¬ (codes "atom" ++ atom_text a ≡ line.now)) (λ a. IsAtom 10 a × (codes "atom" ++ atom_text a ≡ line.now))) }
+    ensures { IfOk result
+        (λ o. MatchOption o ((a : Fact) → IsAtom 10 a → ¬ (codes "atom" ++ atom_text a ≡ line.now))
+        (λ a. IsAtom 10 a × (codes "atom" ++ atom_text a ≡ line.now))) }
 {
     let Some(rest) = strip(line, b"atom") else {
         return Ok(None);

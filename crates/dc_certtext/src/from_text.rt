@@ -47,7 +47,8 @@ struct Reading {
 
 // The certificate, where its last line is read and nothing stands behind it.
 fn finished(stage: Stage, rest: &[u8]) -> Option<Certificate>
-    ensures { MatchOption result ((c : Whole) → stage ≡ Stage.Done c → ¬ (rest.now ≡ [])) (λ c. (stage ≡ Stage.Done c) × (rest.now ≡ [])) }
+    ensures { MatchOption result ((c : Whole) → stage ≡ Stage.Done c → ¬ (rest.now ≡ []))
+        (λ c. (stage ≡ Stage.Done c) × (rest.now ≡ [])) }
 {
     if !rest.is_empty() {
         return None;
@@ -83,13 +84,13 @@ fn read_lines(alloc: Global, text: &[u8]) -> Result<Reading, AllocError>
 
 /// The certificate whose text the bytes are.
 ///
-/// A text has at most 16,777,216 bytes, and each certificate has one text: `write_cert` writes it. The text is
-/// read line by line; each line has one way to be read behind the lines before it.
+/// A text has at most 16,777,216 bytes, and each certificate has one text: `write_cert` writes it.
+/// The text is read line by line; each line has one way to be read behind the lines before it.
 ///
 /// # Errors
 ///
-/// `BadText` where the bytes are no certificate's text, and only there, with its line; else `NoMemory`, for want of
-/// memory alone.
+/// `BadText` where the bytes are no certificate's text, and only there, with its line; else
+/// `NoMemory`, for want of memory alone.
 pub fn read_cert(alloc: Global, text: &[u8]) -> Result<Certificate, ReadFault>
     ensures ranges { IfOk result (λ c. IsCertificate c) }
     ensures text { IfOk result (λ c. text_of c ≡ text.now) }

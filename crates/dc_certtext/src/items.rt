@@ -36,10 +36,12 @@ pub fn write_items(alloc: Global, s: &Sparse) -> Result<Vec<u8>, AllocError>
 
 /// The vector whose items stand there, with `None` exactly where no vector has this text.
 ///
-/// Indices rise and are at most 8191; each value is a fraction in lowest terms that isn't 0, with parts of at
-/// most 2^127 - 1, spelt without leading zeros.
+/// Indices rise and are at most 8191; each value is a fraction in lowest terms that isn't 0, with
+/// parts of at most 2^127 - 1, spelt without leading zeros.
 pub fn read_items(alloc: Global, text: &[u8]) -> Result<Option<Sparse>, AllocError>
-    ensures { IfOk result (λ o. MatchOption o ((s : Vector) → IsVector s → ¬ (vector_text s ≡ text.now)) (λ s. IsVector s × (vector_text s ≡ text.now))) }
+    ensures { IfOk result
+        (λ o. MatchOption o ((s : Vector) → IsVector s → ¬ (vector_text s ≡ text.now))
+        (λ s. IsVector s × (vector_text s ≡ text.now))) }
 {
     let mut items = Items::new(alloc);
     let mut rest = text;
@@ -60,7 +62,8 @@ pub fn read_items(alloc: Global, text: &[u8]) -> Result<Option<Sparse>, AllocErr
 
 // The first item of a text, with the space in front, and the text behind it.
 fn next_item(text: &[u8]) -> Option<(Item, &[u8])>
-    ensures { MatchOption result ((i : Entry) (r : List ℕ) → IsItem i → Starts 32 r → ¬ (32 ∷ (item_text i ++ r) ≡ text.now))
+    ensures { MatchOption result
+        ((i : Entry) (r : List ℕ) → IsItem i → Starts 32 r → ¬ (32 ∷ (item_text i ++ r) ≡ text.now))
         (λ p. IsItem p.0 × Starts 32 p.1.now × (32 ∷ (item_text p.0 ++ p.1.now) ≡ text.now)) }
 {
     let Some(inside) = strip(text, b" ") else {
@@ -75,7 +78,9 @@ fn next_item(text: &[u8]) -> Option<(Item, &[u8])>
 
 // The first number of a text, with the space in front, and the text behind it.
 fn next_number(text: &[u8]) -> Option<(i64, &[u8])>
-    ensures { MatchOption result ((z : ℤ) (r : List ℕ) → unsigned_abs z ≤ 2147483648 → Starts 32 r → ¬ (32 ∷ (signed_decimal z ++ r) ≡ text.now))
+    ensures { MatchOption result
+        ((z : ℤ) (r : List ℕ) → unsigned_abs z ≤ 2147483648 → Starts 32 r
+        → ¬ (32 ∷ (signed_decimal z ++ r) ≡ text.now))
         (λ p. (unsigned_abs p.0 ≤ 2147483648) × Starts 32 p.1.now × (32 ∷ (signed_decimal p.0 ++ p.1.now) ≡ text.now)) }
 {
     let Some((next, more)) = next_field(text) else {
@@ -87,10 +92,12 @@ fn next_number(text: &[u8]) -> Option<(i64, &[u8])>
     Some((next, more))
 }
 
-/// The atom whose numbers stand there, each with a space in front, with `None` exactly where no atom of at
-/// most 10 coefficients, within their sizes, has this text.
+/// The atom whose numbers stand there, each with a space in front, with `None` exactly where no
+/// atom of at most 10 coefficients, within their sizes, has this text.
 pub(crate) fn read_atom(alloc: Global, text: &[u8]) -> Result<Option<Atom>, AllocError>
-    ensures { IfOk result (λ o. MatchOption o ((a : Fact) → IsAtom 10 a → ¬ (atom_text a ≡ text.now)) (λ a. IsAtom 10 a × (atom_text a ≡ text.now))) }
+    ensures { IfOk result
+        (λ o. MatchOption o ((a : Fact) → IsAtom 10 a → ¬ (atom_text a ≡ text.now))
+        (λ a. IsAtom 10 a × (atom_text a ≡ text.now))) }
 {
     let Some((c0, more)) = next_number(text) else {
         return Ok(None);

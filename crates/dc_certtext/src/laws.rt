@@ -2,8 +2,8 @@
 ghost use Rattle.dc_certtext.specs.Limits.{HasText, limit};
 ghost use Rattle.dc_lines.specs.Texts.{HasOneOutcome};
 
-/// A text is a certificate's, within the limit, or has its line; it is one certificate's at most, has one line
-/// at most, and never both.
+/// A text is a certificate's, within the limit, or has its line; it is one certificate's at most,
+/// has one line at most, and never both.
 pub fn one_outcome(text: &[u8])
     ensures { HasOneOutcome HasText limit text.now }
 {

@@ -35,7 +35,8 @@ fn denominator(text: &[u8]) -> Option<i128>
 // The fraction that a word spells.
 #[tactic(auto, using(crate::proofs::Fractions::fractions))]
 pub(crate) fn fraction(word: &[u8]) -> Option<Frac>
-    ensures { MatchOption result ((f : Fraction) → IsSmall f.den → ¬ (frac_text f ≡ word.now)) (λ f. IsSmall f.den × (frac_text f ≡ word.now)) }
+    ensures { MatchOption result ((f : Fraction) → IsSmall f.den → ¬ (frac_text f ≡ word.now))
+        (λ f. IsSmall f.den × (frac_text f ≡ word.now)) }
 {
     let (front, rest) = cut(word, b'/');
     let Some(num) = whole(front) else {
@@ -52,7 +53,8 @@ fn reduced(num: &i128, den: &i128) -> Option<Frac>
     requires num_small { unsigned_abs num.now < 2 ^ 127 }
     requires den_small { unsigned_abs den.now < 2 ^ 127 }
     requires positive { pos 1 ≤ℤ den.now }
-    ensures { MatchOption result (¬ (gcd (unsigned_abs num.now) (unsigned_abs den.now) ≡ 1)) (λ f. (f.num ≡ num.now) × (f.den ≡ den.now)) }
+    ensures { MatchOption result (¬ (gcd (unsigned_abs num.now) (unsigned_abs den.now) ≡ 1))
+        (λ f. (f.num ≡ num.now) × (f.den ≡ den.now)) }
 {
     if gcd128(*num, *den) != 1 {
         return None;
@@ -66,7 +68,8 @@ fn reduced(num: &i128, den: &i128) -> Option<Frac>
 // The item that a word spells.
 #[tactic(auto, using(crate::proofs::Fractions::items))]
 pub(crate) fn item(word: &[u8]) -> Option<Item>
-    ensures { MatchOption result ((i : Entry) → IsItem i → ¬ (item_text i ≡ word.now)) (λ i. IsItem i × (item_text i ≡ word.now)) }
+    ensures { MatchOption result ((i : Entry) → IsItem i → ¬ (item_text i ≡ word.now))
+        (λ i. IsItem i × (item_text i ≡ word.now)) }
 {
     let (front, rest) = cut(word, b':');
     let Some(index) = natural(front) else {

@@ -103,7 +103,8 @@ pub(crate) fn version(line: &[u8], claim: Claim) -> Option<Stage>
 
 // The degree and the number of factors.
 fn two_sizes(line: &[u8]) -> Option<(u8, u8)>
-    ensures { MatchOption result ((d n : ℕ) → d ≤ 3 → 1 ≤ n → n ≤ 3 → ¬ (sizes_line d n ≡ line.now)) (λ p. (p.0 ≤ 3) × (1 ≤ p.1) × (p.1 ≤ 3) × (sizes_line p.0 p.1 ≡ line.now)) }
+    ensures { MatchOption result ((d n : ℕ) → d ≤ 3 → 1 ≤ n → n ≤ 3 → ¬ (sizes_line d n ≡ line.now))
+        (λ p. (p.0 ≤ 3) × (1 ≤ p.1) × (p.1 ≤ 3) × (sizes_line p.0 p.1 ≡ line.now)) }
 {
     let Some(rest) = strip(line, b"degree ") else {
         return None;
@@ -374,7 +375,8 @@ pub(crate) fn main_line(line: &[u8], head: Head, new: SideCert, old: SideCert) -
 
 // The word of the vector that is due, none behind the last.
 fn due(claim: &Claim, found: &Found) -> Option<&'static [u8]>
-    ensures { MatchOption result (due_word claim.now found.now ≡ None) (λ w. due_word claim.now found.now ≡ Some w.now) }
+    ensures { MatchOption result (due_word claim.now found.now ≡ None)
+        (λ w. due_word claim.now found.now ≡ Some w.now) }
 {
     match (claim, found) {
         (Claim::Nothing, Found::None) => Some(b"dual"),

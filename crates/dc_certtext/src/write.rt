@@ -148,7 +148,8 @@ fn entries(
     version: u8,
     list: &[Items<Sparse>],
 ) -> Result<(), AllocError>
-    ensures { OnOk result (out.new.items ≡ out.old.items ++ ended (groups (entry_lines version) 0 list.now)) }
+    ensures { OnOk result
+        (out.new.items ≡ out.old.items ++ ended (groups (entry_lines version) 0 list.now)) }
 {
     for (n, keeps) in list.iter().enumerate() {
         entry(alloc, out, version, n, keeps)?;
@@ -249,7 +250,8 @@ fn cases(
     version: u8,
     when: &Items<Liveness>,
 ) -> Result<(), AllocError>
-    ensures { OnOk result (out.new.items ≡ out.old.items ++ ended (cases_lines version (length when.now))) }
+    ensures { OnOk result
+        (out.new.items ≡ out.old.items ++ ended (cases_lines version (length when.now))) }
 {
     if version == 1 {
         return Ok(());
@@ -258,7 +260,8 @@ fn cases(
 }
 
 fn whens(alloc: Global, out: &mut Vec<u8>, list: &Items<Liveness>) -> Result<(), AllocError>
-    ensures { OnOk result (out.new.items ≡ out.old.items ++ ended (map (shown_line (codes "when")) list.now)) }
+    ensures { OnOk result
+        (out.new.items ≡ out.old.items ++ ended (map (shown_line (codes "when")) list.now)) }
 {
     for l in list.as_slice() {
         shown(alloc, out, b"when", l)?;
@@ -288,7 +291,10 @@ fn pair(
     second_word: &[u8],
     second: &Sparse,
 ) -> Result<(), AllocError>
-    ensures { OnOk result (out.new.items ≡ out.old.items ++ ended (vector_line first_word.now first.now ∷ vector_line second_word.now second.now ∷ [])) }
+    ensures { OnOk result
+        (out.new.items ≡ out.old.items
+        ++ ended (vector_line first_word.now first.now ∷ vector_line second_word.now second.now
+        ∷ [])) }
 {
     vector(alloc, out, first_word, first)?;
     vector(alloc, out, second_word, second)?;
@@ -370,8 +376,8 @@ pub enum WriteFault {
     NoMemory,
 }
 
-/// The lines of a claim, as a certificate's text begins and as the commands print them: `threshold F` with
-/// `whole W` below, `none`, or `vacuous`, each with its line feed.
+/// The lines of a claim, as a certificate's text begins and as the commands print them: `threshold
+/// F` with `whole W` below, `none`, or `vacuous`, each with its line feed.
 pub fn write_claim(alloc: Global, what: &Claim) -> Result<Vec<u8>, AllocError>
     ensures { IfOk result (λ v. v.items ≡ ended (claim_lines what.now)) }
 {
@@ -396,8 +402,8 @@ pub(crate) const LIMIT: usize = 16777216;
 ///
 /// # Errors
 ///
-/// `TooLarge` where the text has more than 16,777,216 bytes, and only there, with its length; else `NoMemory`, for
-/// want of memory alone.
+/// `TooLarge` where the text has more than 16,777,216 bytes, and only there, with its length; else
+/// `NoMemory`, for want of memory alone.
 pub fn write_cert(alloc: Global, c: &Certificate) -> Result<Vec<u8>, WriteFault>
     requires { IsCertificate c.now }
     ensures text { IfOk result (λ v. v.items ≡ text_of c.now) }

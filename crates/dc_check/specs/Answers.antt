@@ -30,7 +30,8 @@ use Rattle.dc_check.specs.Claims.{ShowsClaim}
 module _ (s t : System) (cases : List (List Atom)) (c : Certificate) where
   abbrev pub claim_steps : List Step
   claim_steps =
-      mains.claim_steps (main_problem (pair s t cases c) c.degree c.products (flags c)) (length (unknowns_of (pair s t cases c) c.degree)) c.body
+      mains.claim_steps (main_problem (pair s t cases c) c.degree c.products (flags c))
+        (length (unknowns_of (pair s t cases c) c.degree)) c.body
 
   -- the first limit that the main problem passes
   abbrev pub main_fault : Option MatchFault
@@ -43,7 +44,8 @@ module _ (s t : System) (cases : List (List Atom)) (c : Certificate) where
 
 -- ---- a claim
 -- all steps hold, and what the certificate claims is so
-pub record Accepts (new old : Proc) (cases : List (List Atom)) (c : Certificate) (k : Claim) : Type 0 where
+pub record Accepts (new old : Proc) (cases : List (List Atom)) (c : Certificate)
+    (k : Claim) : Type 0 where
   pub new_system : System
   pub old_system : System
   pub systems : HasSystems new old c.version new_system old_system
@@ -56,16 +58,19 @@ pub record Accepts (new old : Proc) (cases : List (List Atom)) (c : Certificate)
 -- of the clauses on families, or where these hold and no limit is passed, of the others
 abbrev pub IsFirst : System → System → List (List Atom) → Certificate → Step → Type 0
 IsFirst s t cases c x =
-    (first_failure (family_steps s t cases c) ≡ Some x) ⊎ (IsReady s t cases c × (first_failure (claim_steps s t cases c) ≡ Some x))
+    (first_failure (family_steps s t cases c) ≡ Some x)
+      ⊎ (IsReady s t cases c × (first_failure (claim_steps s t cases c) ≡ Some x))
 
-pub record FailsAt (new old : Proc) (cases : List (List Atom)) (c : Certificate) (x : Step) : Type 0 where
+pub record FailsAt (new old : Proc) (cases : List (List Atom)) (c : Certificate)
+    (x : Step) : Type 0 where
   pub new_system : System
   pub old_system : System
   pub systems : HasSystems new old c.version new_system old_system
   pub first : IsFirst new_system old_system cases c x
 
 -- the main problem is the first that passes a limit
-pub record IsTooWide (new old : Proc) (cases : List (List Atom)) (c : Certificate) (what : Count) (count : ℕ) : Type 0 where
+pub record IsTooWide (new old : Proc) (cases : List (List Atom)) (c : Certificate) (what : Count)
+    (count : ℕ) : Type 0 where
   pub new_system : System
   pub old_system : System
   pub systems : HasSystems new old c.version new_system old_system
@@ -74,12 +79,14 @@ pub record IsTooWide (new old : Proc) (cases : List (List Atom)) (c : Certificat
 
 abbrev pub IsTooLarge : Proc → Proc → List (List Atom) → Certificate → Option Side → Count → ℕ → Type 0
 IsTooLarge new old cases c (Some New) what count = size_fault new ≡ Some (system.TooLarge what count)
-IsTooLarge new old cases c (Some Old) what count = (size_fault new ≡ None) × (size_fault old ≡ Some (system.TooLarge what count))
+IsTooLarge new old cases c (Some Old) what count =
+    (size_fault new ≡ None) × (size_fault old ≡ Some (system.TooLarge what count))
 IsTooLarge new old cases c None what count = IsTooWide new old cases c what count
 
 -- want of memory is free
 abbrev pub IsFault : Proc → Proc → List (List Atom) → Certificate → CheckFault → Type 0
-IsFault new old cases c (Rejected clause index) = FailsAt new old cases c (step clause index (Some false))
+IsFault new old cases c (Rejected clause index) =
+    FailsAt new old cases c (step clause index (Some false))
 IsFault new old cases c (Past128 clause index) = FailsAt new old cases c (step clause index None)
 IsFault new old cases c (TooLarge side what count) = IsTooLarge new old cases c side what count
 IsFault new old cases c NoMemory = Unit {0}

@@ -14,14 +14,16 @@ use Rattle.dc_claims.specs.Claims.{IsLeast, HasNoCertificate, IsVacuous}
 
 -- on an allowed input, a finished run of new costs at most t more than a finished run of old
 abbrev pub BoundsRuns : Proc → Proc → List (List Atom) → ℚ → Type 0
-BoundsRuns new old cases t = (v : State) (c d : ℤ) → Allowed cases v → Costs new v c → Costs old v d → of_ℤ (c -ℤ d) ≤ℚ t
+BoundsRuns new old cases t =
+    (v : State) (c d : ℤ) → Allowed cases v → Costs new v c → Costs old v d → of_ℤ (c -ℤ d) ≤ℚ t
 
 -- no allowed input has a finished run of both
 abbrev pub HasNoRuns : Proc → Proc → List (List Atom) → Type 0
 HasNoRuns new old cases = (v : State) (c d : ℤ) → Allowed cases v → Costs new v c → Costs old v d → ⊥
 
 -- ---- over the atoms of a pair, for potentials of degree d and products of at most k atoms
-pub record ShowsThreshold (new old : Proc) (cases : List (List Atom)) (p : Pair) (d k : ℕ) (t : ℚ) : Type 0 where
+pub record ShowsThreshold (new old : Proc) (cases : List (List Atom)) (p : Pair) (d k : ℕ)
+    (t : ℚ) : Type 0 where
   pub bounds : BoundsRuns new old cases t
   pub least : IsLeast p d k t
 

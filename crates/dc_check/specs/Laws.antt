@@ -25,8 +25,8 @@ use Rattle.dc_check.specs.Pairs.{pair, flags}
 use Rattle.dc_check.specs.Systems.{HasSystems}
 use Rattle.dc_check.specs.Claims.{BoundsRuns, HasNoRuns}
 
--- each program's atoms are an inductive family, the lines say rightly what is live, and what a path reaches from an allowed input meets
--- the atoms of its location
+-- each program's atoms are an inductive family, the lines say rightly what is live, and what a path
+-- reaches from an allowed input meets the atoms of its location
 pub record ShowsFamilies (s t : System) (cases : List (List Atom)) (c : Certificate) : Type 0 where
   pub new_inductive : IsInductive (graph_of s) cases (family_of c.new_side.families)
   pub old_inductive : IsInductive (graph_of t) cases (family_of c.old_side.families)
@@ -36,24 +36,28 @@ pub record ShowsFamilies (s t : System) (cases : List (List Atom)) (c : Certific
 
 abbrev pub ClausesShowFamilies : Type 0
 ClausesShowFamilies = (s t : System) (cases : List (List Atom)) (c : Certificate)
-    → IsWellFormed s → IsWellFormed t → s.params ≡ t.params → AllByRecursion (IsCase s.params) cases → IsCertificate c
+    → IsWellFormed s → IsWellFormed t → s.params ≡ t.params → AllByRecursion (IsCase s.params) cases
+      → IsCertificate c
     → AllHold (family_steps s t cases c) → ShowsFamilies s t cases c
 
 -- ---- runs
--- what is certified over the atoms of a pair bounds the runs of two programs, and where every threshold is certified, no allowed input has runs of
--- both
+-- what is certified over the atoms of a pair bounds the runs of two programs, and where every
+-- threshold is certified, no allowed input has runs of both
 pub record SpeaksOfRuns (new old : Proc) (cases : List (List Atom)) (p : Pair) : Type 0 where
   pub bounds : (d k : ℕ) (t : ℚ) → IsCertified p d k t → BoundsRuns new old cases t
   pub none : (d k : ℕ) → IsVacuous p d k → HasNoRuns new old cases
 
 abbrev pub CertificatesSpeakOfRuns : Type 0
-CertificatesSpeakOfRuns = (new old : Proc) (version : ℕ) (s t : System) (cases : List (List Atom)) (c : Certificate)
-    → IsProgram new → IsProgram old → HaveSameParams new old → IsCondition new.params cases → IsCertificate c → HasSystems new old version s t
+CertificatesSpeakOfRuns =
+    (new old : Proc) (version : ℕ) (s t : System) (cases : List (List Atom)) (c : Certificate)
+    → IsProgram new → IsProgram old → HaveSameParams new old → IsCondition new.params cases
+      → IsCertificate c → HasSystems new old version s t
     → AllHold (family_steps s t cases c) → SpeaksOfRuns new old cases (pair s t cases c)
 
 -- ---- sizes
 -- what the clauses on families hold of is of the sizes that the main problem asks for
 abbrev pub AcceptedFit : Type 0
 AcceptedFit = (s t : System) (cases : List (List Atom)) (c : Certificate)
-    → IsWellFormed s → IsWellFormed t → s.params ≡ t.params → IsCondition s.params cases → IsCertificate c
+    → IsWellFormed s → IsWellFormed t → s.params ≡ t.params → IsCondition s.params cases
+      → IsCertificate c
     → AllHold (family_steps s t cases c) → IsFit (pair s t cases c) c.degree c.products (flags c)

@@ -8,7 +8,13 @@ use Rattle.dc_cert.specs.Ranges.{is_live}
 use Rattle.dc_claims.specs.Duties.{Pair, Flags}
 
 abbrev pub pair : System → System → List (List Atom) → Certificate → Pair
-pair s t cases c = record { new = s; new_atoms = c.new_side.families; old = t; old_atoms = c.old_side.families; cases = cases }
+pair s t cases c = record {
+  new = s;
+  new_atoms = c.new_side.families;
+  old = t;
+  old_atoms = c.old_side.families;
+  cases = cases;
+}
 
 abbrev pub edge_flags : List EdgeCert → List Bool
 edge_flags es = map (λ (e : EdgeCert). is_live e.live) es

@@ -18,14 +18,16 @@ use Rattle.dc_check.specs.Answers.{main_fault, IsFirst}
 abbrev pub IsSizeFault : Side → Proc → CheckFault → Type 0
 IsSizeFault side p (Rejected clause index) = ⊥
 IsSizeFault side p (Past128 clause index) = ⊥
-IsSizeFault side p (TooLarge at what count) = (at ≡ Some side) × (size_fault p ≡ Some (system.TooLarge what count))
+IsSizeFault side p (TooLarge at what count) =
+    (at ≡ Some side) × (size_fault p ≡ Some (system.TooLarge what count))
 IsSizeFault side p NoMemory = Unit {0}
 
 -- the main problem does
 abbrev pub IsWidthFault : System → System → List (List Atom) → Certificate → CheckFault → Type 0
 IsWidthFault s t cases c (Rejected clause index) = ⊥
 IsWidthFault s t cases c (Past128 clause index) = ⊥
-IsWidthFault s t cases c (TooLarge at what count) = (at ≡ None) × (main_fault s t cases c ≡ Some (main.TooLarge what count))
+IsWidthFault s t cases c (TooLarge at what count) =
+    (at ≡ None) × (main_fault s t cases c ≡ Some (main.TooLarge what count))
 IsWidthFault s t cases c NoMemory = Unit {0}
 
 -- over two systems, the first step does not hold, or the main problem passes a limit
@@ -33,5 +35,6 @@ abbrev pub IsStepFault : System → System → List (List Atom) → Certificate 
 IsStepFault s t cases c (Rejected clause index) = IsFirst s t cases c (step clause index (Some false))
 IsStepFault s t cases c (Past128 clause index) = IsFirst s t cases c (step clause index None)
 IsStepFault s t cases c (TooLarge at what count) =
-    (at ≡ None) × AllHold (family_steps s t cases c) × (main_fault s t cases c ≡ Some (main.TooLarge what count))
+    (at ≡ None) × AllHold (family_steps s t cases c)
+      × (main_fault s t cases c ≡ Some (main.TooLarge what count))
 IsStepFault s t cases c NoMemory = Unit {0}

@@ -7,7 +7,8 @@ use Rattle.dc_system.specs.Folded.{IsFolded}
 
 -- version 1 speaks of the system of the procedure, version 2 of that system folded
 abbrev pub IsSystemOf : ℕ → Proc → System → Type 0
-IsSystemOf version p s = ((version ≡ 1) × (s ≡ system_of p)) ⊎ ((version ≡ 2) × IsFolded (system_of p) s)
+IsSystemOf version p s =
+    ((version ≡ 1) × (s ≡ system_of p)) ⊎ ((version ≡ 2) × IsFolded (system_of p) s)
 
 -- the systems of two procedures, both within the limits
 pub record HasSystems (new old : Proc) (version : ℕ) (s t : System) : Type 0 where

@@ -93,12 +93,14 @@ fn check_steps(
 
 /// Checks a certificate over two procedures with the same parameters, and the cases of a condition.
 ///
-/// The systems are those of the certificate's version. The clauses on families come first, then the size of the main problem, then the other clauses. Nothing is asked
-/// of where the certificate came from but its ranges.
+/// The systems are those of the certificate's version. The clauses on families come first, then the
+/// size of the main problem, then the other clauses. Nothing is asked of where the certificate came
+/// from but its ranges.
 ///
 /// # Errors
-/// `Rejected` exactly where the first step that does not hold is a false clause, `Past128` where a sum of it doesn't fit, `TooLarge` where a system or the main problem
-/// is the first that passes a limit.
+/// `Rejected` exactly where the first step that does not hold is a false clause, `Past128` where a
+/// sum of it doesn't fit, `TooLarge` where a system or the main problem is the first that passes a
+/// limit.
 pub fn check(
     alloc: Global,
     new: &Proc,

@@ -64,8 +64,12 @@ pub fn main_problem_of(
     cases: &[Items<Atom>],
     c: &Certificate,
 ) -> Result<Problem, CheckFault>
-    requires fit { IsFit (pair new.now old.now cases.now c.now) c.now.degree c.now.products (flags c.now) }
-    ensures problem { IfOk result (λ p. linear_of p ≡ rational (main_problem (pair new.now old.now cases.now c.now) c.now.degree c.now.products (flags c.now))) }
+    requires fit { IsFit (pair new.now old.now cases.now c.now) c.now.degree c.now.products
+        (flags c.now) }
+    ensures problem { IfOk result
+        (λ p. linear_of p ≡ rational
+        (main_problem (pair new.now old.now cases.now c.now) c.now.degree c.now.products
+        (flags c.now))) }
     ensures well_formed { IfOk result (λ p. IsWellFormed p) }
     ensures within { IfOk result (λ p. main_fault new.now old.now cases.now c.now ≡ None) }
     ensures fault { IfErr result (IsWidthFault new.now old.now cases.now c.now) }

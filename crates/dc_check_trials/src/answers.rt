@@ -252,7 +252,8 @@ fn judges_each_case(rt: HostRuntime) -> Result<(), Fail> {
 fn judges_keeps_and_edges(rt: HostRuntime) -> Result<(), Fail> {
     let alloc = rt.alloc();
     let table = [
-        // a keep of the entry with a multiplier that is negative, with another coefficient, and with a constant that is too great
+        // a keep of the entry with a multiplier that is negative, with another coefficient, and
+        // with a constant that is too great
         case(
             APART_NEW,
             APART_OLD,

@@ -21,7 +21,8 @@ dual 0:1 1:1 2:1
 end
 ";
 
-/// `tick n; tick -n;` against `skip;` where n is 0 to 10, statement by statement: a constant for what is to come is 10 before the first, so 10.
+/// `tick n; tick -n;` against `skip;` where n is 0 to 10, statement by statement: a constant for
+/// what is to come is 10 before the first, so 10.
 pub const APART: &str = "threshold 10
 whole 10
 diffcost 1
@@ -123,7 +124,8 @@ ray lambda
 end
 ";
 
-/// A program with a local in a loop that never ends, whose atom at location 0 says that the local is 0 or more.
+/// A program with a local in a loop that never ends, whose atom at location 0 says that the local
+/// is 0 or more.
 pub const LOCAL: &str = "threshold 0
 whole 0
 diffcost 1

@@ -19,17 +19,19 @@ pub fn solutions_are_splits()
     ensures cost { SplitsCost }
 {}
 
-/// The certified thresholds are exactly the costs of the solutions of the main problem, and what is above
-/// one is one. So a solution of least cost, no solution, and costs below every bound are the three claims.
+/// The certified thresholds are exactly the costs of the solutions of the main problem, and what is
+/// above one is one. So a solution of least cost, no solution, and costs below every bound are the
+/// three claims.
 pub fn outcomes_are_claims()
     ensures costs { CertifiedAreCosts }
     ensures higher { HigherAreCertified }
     ensures claims { OutcomesAreClaims }
 {}
 
-/// Where the atoms hold at each state that is reached from an input, a run of new costs at most a certified
-/// threshold more than a run of old on the same input; where every threshold is certified, no input has a
-/// run of both. The systems are any two: folded ones as well as those of the programs' texts.
+/// Where the atoms hold at each state that is reached from an input, a run of new costs at most a
+/// certified threshold more than a run of old on the same input; where every threshold is
+/// certified, no input has a run of both. The systems are any two: folded ones as well as those of
+/// the programs' texts.
 pub fn certified_thresholds_bound_runs()
     ensures bound { CertifiedBoundRuns }
     ensures nowhere { VacuousRunNowhere }

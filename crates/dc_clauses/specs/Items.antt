@@ -9,7 +9,8 @@ use Rattle.dc_cert.specs.declared.sparse.Item.{Item}
 use Rattle.dc_cert.specs.declared.sparse.Sparse.{Sparse}
 use Rattle.dc_cert.specs.Vectors.{IsVector, IsDense, IsBelow, entry_of}
 
--- from a sum on, a k * x for each item x of index k in order, where each product and each partial sum fits
+-- from a sum on, a k * x for each item x of index k in order, where each product and each partial
+-- sum fits
 abbrev pub items_sum : (ℕ → ℤ) → Option ℚ → List Item → Option ℚ
 items_sum a s [] = s
 items_sum a s (i ∷ is) = items_sum a (option_and_then (λ t. added t (a i.index) (value i.value)) s) is
@@ -27,7 +28,8 @@ pub record AreSums (n : ℕ) (a : ℕ → ℤ) (s : Sparse) : Type 0 where
   -- a sum that fits is the dot product
   pub value : (t : ℚ) → sum_over a s.items ≡ Some t → IsFitSum n a (entry_of s.items) t
   -- the sum over the first k items is that over the entries before the next item's index, value and fit
-  pub first : (k : ℕ) (i : Item) → slice_get s.items k ≡ Some i → sum_over a (take k s.items) ≡ folded i.index a (entry_of s.items)
+  pub first : (k : ℕ) (i : Item) → slice_get s.items k ≡ Some i
+      → sum_over a (take k s.items) ≡ folded i.index a (entry_of s.items)
 
 abbrev pub SumsOverItems : Type 0
 SumsOverItems = (n : ℕ) (a : ℕ → ℤ) (s : Sparse) → IsVector s → All (IsBelow n) s.items → AreSums n a s

@@ -37,7 +37,8 @@ pub record IsShaped (s : System) (x : SideCert) : Type 0 where
 
 -- the keeps of a case: in range, and at most one for each atom of the entry
 abbrev pub keeps_fit : SideCert → List Atom → List Sparse → Bool
-keeps_fit x case keeps = leb (length keeps) (length (atoms_at x 0)) && list_all (in_range (length case)) keeps
+keeps_fit x case keeps =
+    leb (length keeps) (length (atoms_at x 0)) && list_all (in_range (length case)) keeps
 
 -- those of each case that is there
 abbrev pub entry_fits_cases : SideCert → List (List Atom) → Bool

@@ -54,12 +54,14 @@ coefficient_parts hyps n v f = map (λ i. is (part_sum hyps n v i) (f i)) (range
 
 -- ---- dead: positive multipliers, whose sum has no coefficient and the constant -1
 abbrev pub dead_parts : List Atom → ℕ → Sparse → List Test
-dead_parts hyps n v = signs v ++ (coefficient_parts hyps n v (λ i. pos 0) ++ is (part_sum hyps n v n) (negsuc 0) ∷ [])
+dead_parts hyps n v =
+    signs v ++ (coefficient_parts hyps n v (λ i. pos 0) ++ is (part_sum hyps n v n) (negsuc 0) ∷ [])
 
 -- ---- live: the product with each atom's column is at most 0, and the last part is negative
 abbrev pub live_parts : List Atom → ℕ → Sparse → List Test
 live_parts hyps n y =
-    map (λ j. is_at_most (column_sum hyps n y j) (pos 0)) (range_with_len 0 (length hyps)) ++ Some (is_negative (at y n)) ∷ []
+    map (λ j. is_at_most (column_sum hyps n y j) (pos 0)) (range_with_len 0 (length hyps))
+      ++ Some (is_negative (at y n)) ∷ []
 
 abbrev pub line_parts : List Atom → ℕ → Liveness → List Test
 line_parts hyps n (Dead v) = dead_parts hyps n v
@@ -73,4 +75,5 @@ line_in_range atoms n (Live y) = in_range (n + 1) y
 -- ---- a keep: positive multipliers, whose sum has the atom's coefficients and a constant of at most the atom's; `more` is tested in between
 abbrev pub keep_parts : List Atom → ℕ → Atom → List Test → Sparse → List Test
 keep_parts hyps n a more v =
-    signs v ++ (more ++ (coefficient_parts hyps n v (coefficient_of a) ++ is_at_most (part_sum hyps n v n) a.c0 ∷ []))
+    signs v ++ (more ++ (coefficient_parts hyps n v (coefficient_of a)
+      ++ is_at_most (part_sum hyps n v n) a.c0 ∷ []))

@@ -26,7 +26,8 @@ whole_problem p = record {
   cost = whole_at p.cost.items;
 }
 
--- of the columns the first 2 * u belong to u unknowns, a plus and a minus each; the others are those of the multipliers
+-- of the columns the first 2 * u belong to u unknowns, a plus and a minus each; the others are
+-- those of the multipliers
 module _ (main : Linear ℤ) (u : ℕ) where
   abbrev pub multipliers : ℕ
   multipliers = main.columns - u * 2
@@ -43,7 +44,8 @@ module _ (main : Linear ℤ) (u : ℕ) where
   short_value unknown lambda k = if ltb k u then at unknown k else at lambda (k - u)
 
   abbrev pub left_fold : Sparse → Sparse → ℕ → Option ℚ
-  left_fold unknown lambda i = folded (u + multipliers) (short_coefficient i) (short_value unknown lambda)
+  left_fold unknown lambda i =
+      folded (u + multipliers) (short_coefficient i) (short_value unknown lambda)
 
   abbrev pub price_fold : Sparse → ℕ → Option ℚ
   price_fold dual k = folded main.equations (λ i. short_coefficient i k) (at dual)
@@ -60,7 +62,8 @@ module _ (main : Linear ℤ) (u : ℕ) where
       range_step 0 u unknown ∷ range_step 1 multipliers lambda ∷ range_step 4 main.equations dual ∷ []
   range_steps (Nothing dual) = range_step 4 main.equations dual ∷ []
   range_steps (Vacuous unknown lambda ray_unknown ray_lambda) =
-      range_step 0 u unknown ∷ range_step 1 multipliers lambda ∷ range_step 2 u ray_unknown ∷ range_step 3 multipliers ray_lambda ∷ []
+      range_step 0 u unknown ∷ range_step 1 multipliers lambda ∷ range_step 2 u ray_unknown
+        ∷ range_step 3 multipliers ray_lambda ∷ []
 
   -- ---- clause 8: each item of lambda, then of the ray's lambda, is positive; the index is the item's
   abbrev pub sign_step : Item → Step
@@ -69,30 +72,37 @@ module _ (main : Linear ℤ) (u : ℕ) where
   abbrev pub sign_steps : Body → List Step
   sign_steps (Threshold t unknown lambda dual) = map sign_step lambda.items
   sign_steps (Nothing dual) = []
-  sign_steps (Vacuous unknown lambda ray_unknown ray_lambda) = map sign_step lambda.items ++ map sign_step ray_lambda.items
+  sign_steps (Vacuous unknown lambda ray_unknown ray_lambda) =
+      map sign_step lambda.items ++ map sign_step ray_lambda.items
 
   -- ---- clause 9: each equation holds
   abbrev pub equation_test : (ℕ → ℤ) → Sparse → Sparse → ℕ → Test
   equation_test right unknown lambda i = is (left_fold unknown lambda i) (right i)
 
   abbrev pub equation_tests : Body → List Test
-  equation_tests (Threshold t unknown lambda dual) = map (equation_test main.right_side unknown lambda) (range_with_len 0 main.equations)
+  equation_tests (Threshold t unknown lambda dual) =
+      map (equation_test main.right_side unknown lambda) (range_with_len 0 main.equations)
   equation_tests (Nothing dual) = []
-  equation_tests (Vacuous unknown lambda ray_unknown ray_lambda) = map (equation_test main.right_side unknown lambda) (range_with_len 0 main.equations)
+  equation_tests (Vacuous unknown lambda ray_unknown ray_lambda) =
+      map (equation_test main.right_side unknown lambda) (range_with_len 0 main.equations)
 
   -- ---- clause 10: dual times the column of an unknown is its cost, times that of a multiplier at most 0; for `none` the costs count as 0
   abbrev pub price_test : (ℕ → ℤ) → Sparse → ℕ → Test
-  price_test cost dual k = if ltb k u then is (price_fold dual k) (cost (short_column k)) else is_at_most (price_fold dual k) (pos 0)
+  price_test cost dual k =
+      if ltb k u then is (price_fold dual k) (cost (short_column k)) else is_at_most
+      (price_fold dual k) (pos 0)
 
   abbrev pub price_tests : Body → List Test
-  price_tests (Threshold t unknown lambda dual) = map (price_test main.cost dual) (range_with_len 0 (u + multipliers))
+  price_tests (Threshold t unknown lambda dual) =
+      map (price_test main.cost dual) (range_with_len 0 (u + multipliers))
   price_tests (Nothing dual) = map (price_test (λ j. pos 0) dual) (range_with_len 0 (u + multipliers))
   price_tests (Vacuous unknown lambda ray_unknown ray_lambda) = []
 
   -- ---- clause 11: the threshold is unknown 0, and then dual times the right sides; for `none` the latter is positive
   abbrev pub threshold_tests : Body → List Test
   threshold_tests (Threshold t unknown lambda dual) =
-      all_of (Some (eq_ℚ (value t) (at unknown 0)) ∷ option_map (λ s. eq_ℚ (value t) s) (right_fold dual) ∷ []) ∷ []
+      all_of (Some (eq_ℚ (value t) (at unknown 0))
+        ∷ option_map (λ s. eq_ℚ (value t) s) (right_fold dual) ∷ []) ∷ []
   threshold_tests (Nothing dual) = option_map is_positive (right_fold dual) ∷ []
   threshold_tests (Vacuous unknown lambda ray_unknown ray_lambda) = []
 
@@ -100,13 +110,15 @@ module _ (main : Linear ℤ) (u : ℕ) where
   abbrev pub ray_tests : Body → List Test
   ray_tests (Threshold t unknown lambda dual) = []
   ray_tests (Nothing dual) = []
-  ray_tests (Vacuous unknown lambda ray_unknown ray_lambda) = map (equation_test (λ i. pos 0) ray_unknown ray_lambda) (range_with_len 0 main.equations)
+  ray_tests (Vacuous unknown lambda ray_unknown ray_lambda) =
+      map (equation_test (λ i. pos 0) ray_unknown ray_lambda) (range_with_len 0 main.equations)
 
   -- ---- clause 13: the ray's unknown 0 is negative
   abbrev pub fall_tests : Body → List Test
   fall_tests (Threshold t unknown lambda dual) = []
   fall_tests (Nothing dual) = []
-  fall_tests (Vacuous unknown lambda ray_unknown ray_lambda) = Some (is_negative (at ray_unknown 0)) ∷ []
+  fall_tests (Vacuous unknown lambda ray_unknown ray_lambda) =
+      Some (is_negative (at ray_unknown 0)) ∷ []
 
   -- ---- in order
   abbrev pub claim_steps : Body → List Step

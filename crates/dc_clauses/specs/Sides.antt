@@ -57,12 +57,14 @@ entry_fits atoms cases [] [] = true
 entry_fits atoms cases [] (ks ∷ kss) = false
 entry_fits atoms cases (w ∷ ws) [] = false
 entry_fits atoms cases (w ∷ ws) (ks ∷ kss) =
-    has_keeps w atoms ks && (case_range (slice_get cases 0) ks && entry_fits atoms (drop 1 cases) ws kss)
+    has_keeps w atoms ks
+      && (case_range (slice_get cases 0) ks && entry_fits atoms (drop 1 cases) ws kss)
 
 abbrev pub edge_fits : System → SideCert → Edge → EdgeCert → Bool
 edge_fits s x e c =
     line_in_range (length (edge_atoms x e)) (edge_places s.vars e) c.live
-    && (has_keeps c.live (atoms_at x e.to) c.keeps && list_all (in_range (length (edge_atoms x e))) c.keeps)
+    && (has_keeps c.live (atoms_at x e.to) c.keeps
+      && list_all (in_range (length (edge_atoms x e))) c.keeps)
 
 abbrev pub shape_fits : System → List (List Atom) → List Liveness → SideCert → Bool
 shape_fits s cases when x =
@@ -77,20 +79,23 @@ shape_fits s cases when x =
 abbrev pub case_test : ℕ → Option (List Atom) → Option Liveness → Test
 case_test n None line = Some false
 case_test n (Some case) None = Some false
-case_test n (Some case) (Some line) = all_of (Some (line_in_range (length case) n line) ∷ line_parts case n line)
+case_test n (Some case) (Some line) =
+    all_of (Some (line_in_range (length case) n line) ∷ line_parts case n line)
 
 abbrev pub numbered_case : ℕ → List (List Atom) → List Liveness → ℕ → Test
 numbered_case n cases when k = case_test n (slice_get cases k) (slice_get when k)
 
 abbrev pub case_tests : ℕ → List (List Atom) → List Liveness → List Test
-case_tests n cases when = map (numbered_case n cases when) (range_with_len 0 (max (length cases) (length when)))
+case_tests n cases when =
+    map (numbered_case n cases when) (range_with_len 0 (max (length cases) (length when)))
 
 -- ---- clause 3: the keeps of the entry, case by case. Over the parameters alone an atom has its locals set to 0
 abbrev pub entry_test : System → List Atom → Atom → Sparse → Test
 entry_test s case a k = all_of (keep_parts case s.params a [] k)
 
 abbrev pub entry_tests : System → List (List Atom) → SideCert → List Test
-entry_tests s cases x = joined (paired (λ case ks. paired (entry_test s case) (atoms_at x 0) ks) cases x.entry_keeps)
+entry_tests s cases x =
+    joined (paired (λ case ks. paired (entry_test s case) (atoms_at x 0) ks) cases x.entry_keeps)
 
 -- ---- clause 4: the lines of the edges
 abbrev pub edge_test : System → SideCert → Edge → EdgeCert → Test
@@ -102,10 +107,12 @@ edge_tests s x = paired (edge_test s x) s.edges x.edges
 -- ---- clause 5: the keeps of the edges, each for an atom of the target after the update, which is affine
 abbrev pub keep_test : System → SideCert → Edge → Atom → Sparse → Test
 keep_test s x e a k =
-    all_of (keep_parts (edge_atoms x e) (edge_places s.vars e) (atom_after s.vars e a) (Some (is_affine_after e a.coefs) ∷ []) k)
+    all_of (keep_parts (edge_atoms x e) (edge_places s.vars e) (atom_after s.vars e a)
+      (Some (is_affine_after e a.coefs) ∷ []) k)
 
 abbrev pub keep_tests : System → SideCert → List Test
-keep_tests s x = joined (paired (λ e c. paired (keep_test s x e) (atoms_at x e.to) c.keeps) s.edges x.edges)
+keep_tests s x =
+    joined (paired (λ e c. paired (keep_test s x e) (atoms_at x e.to) c.keeps) s.edges x.edges)
 
 -- ---- clause 6: the line of the exit
 abbrev pub exit_test : System → SideCert → Test
@@ -117,7 +124,9 @@ exit_tests s x t y = exit_test s x ∷ exit_test t y ∷ []
 -- ---- clauses 1 to 6 in order, in each of them new before old
 module _ (new old : System) (cases : List (List Atom)) (c : Certificate) where
   abbrev pub shape_tests : List Test
-  shape_tests = Some (shape_fits new cases c.when c.new_side) ∷ Some (shape_fits old cases c.when c.old_side) ∷ []
+  shape_tests =
+      Some (shape_fits new cases c.when c.new_side) ∷ Some (shape_fits old cases c.when c.old_side)
+      ∷ []
 
   abbrev pub family_steps : List Step
   family_steps =

@@ -51,7 +51,8 @@ fn exit_failure(
 ) -> Option<Step>
     requires new { IsShaped new.now new_side.now }
     requires old { IsShaped old.now old_side.now }
-    ensures { result ≡ first_failure (counted 6 0 (exit_tests new.now new_side.now old.now old_side.now)) }
+    ensures { result ≡ first_failure
+        (counted 6 0 (exit_tests new.now new_side.now old.now old_side.now)) }
 {
     let new_exit = exit_test(new, new_side);
     let old_exit = exit_test(old, old_side);
@@ -60,7 +61,8 @@ fn exit_failure(
 
 /// The step at which a walk stopped.
 fn stop(walk: Walk) -> Option<Step>
-    ensures { (c k : ℕ) (ts : List Test) → IsWalk c k ts walk → result ≡ first_failure (counted c k ts) }
+    ensures { (c k : ℕ) (ts : List Test) → IsWalk c k ts walk
+        → result ≡ first_failure (counted c k ts) }
 {
     match walk {
         Walk::Passed { .. } => None,
@@ -82,7 +84,10 @@ fn entry_failure(
     requires few { length cases.now ≤ 64 }
     requires new_fits { entry_fits_cases new_side.now cases.now ≡ true }
     requires old_fits { entry_fits_cases old_side.now cases.now ≡ true }
-    ensures { IfOk result (λ r. r ≡ first_failure (counted 3 0 (entry_tests new.now cases.now new_side.now ++ entry_tests old.now cases.now old_side.now))) }
+    ensures { IfOk result
+        (λ r. r ≡ first_failure
+        (counted 3 0 (entry_tests new.now cases.now new_side.now
+        ++ entry_tests old.now cases.now old_side.now))) }
 {
     match entry_walk(alloc, new, cases, new_side, 0)? {
         Walk::Passed { next } => {
@@ -102,7 +107,8 @@ fn line_failure(
 ) -> Option<Step>
     requires new { IsShaped new.now new_side.now }
     requires old { IsShaped old.now old_side.now }
-    ensures { result ≡ first_failure (counted 4 0 (edge_tests new.now new_side.now ++ edge_tests old.now old_side.now)) }
+    ensures { result ≡ first_failure
+        (counted 4 0 (edge_tests new.now new_side.now ++ edge_tests old.now old_side.now)) }
 {
     if let Some(step) = edge_failure(new, new_side, 0) {
         return Some(step);
@@ -120,7 +126,9 @@ fn keep_failure(
 ) -> Result<Option<Step>, AllocError>
     requires new { IsShaped new.now new_side.now }
     requires old { IsShaped old.now old_side.now }
-    ensures { IfOk result (λ r. r ≡ first_failure (counted 5 0 (keep_tests new.now new_side.now ++ keep_tests old.now old_side.now))) }
+    ensures { IfOk result
+        (λ r. r ≡ first_failure
+        (counted 5 0 (keep_tests new.now new_side.now ++ keep_tests old.now old_side.now))) }
 {
     match keep_walk(alloc, new, new_side, 0)? {
         Walk::Passed { next } => {
@@ -131,7 +139,8 @@ fn keep_failure(
     }
 }
 
-/// The first step of clauses 1 to 6 that does not hold. The systems are those of the certificate's version, and the cases speak of the parameters.
+/// The first step of clauses 1 to 6 that does not hold. The systems are those of the certificate's
+/// version, and the cases speak of the parameters.
 pub fn family_failure(
     alloc: Global,
     new: &System,

@@ -61,7 +61,9 @@ fn part(atom: &Atom, places: usize, place: usize) -> i128
 pub fn part_sum(hyps: &Hyps, places: usize, items: &[Item], place: usize) -> Option<Frac>
     requires rising { AreItems 0 items.now }
     requires below { All (IsBelow (length (atoms_of hyps.now))) items.now }
-    ensures { option_map value result ≡ folded (length (atoms_of hyps.now)) (λ j. part_of places (atom_number (atoms_of hyps.now) j) place) (entry_of items.now) }
+    ensures { option_map value result
+        ≡ folded (length (atoms_of hyps.now))
+        (λ j. part_of places (atom_number (atoms_of hyps.now) j) place) (entry_of items.now) }
 {
     let mut sum = Frac::whole(0);
     for item in items {
@@ -75,7 +77,8 @@ pub fn part_sum(hyps: &Hyps, places: usize, items: &[Item], place: usize) -> Opt
 pub fn column_sum(atom: &Atom, places: usize, items: &[Item]) -> Option<Frac>
     requires rising { AreItems 0 items.now }
     requires below { All (IsBelow (places + 1)) items.now }
-    ensures { option_map value result ≡ folded (places + 1) (part_of places atom.now) (entry_of items.now) }
+    ensures { option_map value result
+        ≡ folded (places + 1) (part_of places atom.now) (entry_of items.now) }
 {
     let mut sum = Frac::whole(0);
     for item in items {

@@ -90,7 +90,9 @@ fn case_keep_failure(
     requires atoms { AreAtoms atoms.now }
     requires one_each { length keeps.now ≤ length atoms.now }
     requires room { start ≤ 1048576 }
-    ensures { IfOk result (λ r. r ≡ first_failure (counted 3 start (paired (shows_at_entry s.now case.now) atoms.now keeps.now))) }
+    ensures { IfOk result
+        (λ r. r ≡ first_failure
+        (counted 3 start (paired (shows_at_entry s.now case.now) atoms.now keeps.now))) }
 {
     for k in 0..keeps.len() {
         let test = entry_test(alloc, s, case, &atoms[k], &keeps[k])?;
@@ -171,7 +173,10 @@ fn edge_keep_failure(
 ) -> Result<Option<Step>, AllocError>
     requires part { IsEdgePart s.now x.now e.now c.now }
     requires room { start ≤ 1048576 }
-    ensures { IfOk result (λ r. r ≡ first_failure (counted 5 start (paired (shows_after s.now x.now e.now) (atoms_of_location x.now e.now.to) c.now.keeps))) }
+    ensures { IfOk result
+        (λ r. r ≡ first_failure
+        (counted 5 start (paired (shows_after s.now x.now e.now)
+        (atoms_of_location x.now e.now.to) c.now.keeps))) }
 {
     let atoms = atoms_at(x, e.to);
     let keeps = c.keeps.as_slice();

@@ -87,12 +87,14 @@ fn number_at(coefs: &[i128], place: usize) -> i128
     }
 }
 
-/// Whether the sum has these coefficients, by place; the first that is another, or doesn't fit, decides.
+/// Whether the sum has these coefficients, by place; the first that is another, or doesn't fit,
+/// decides.
 fn coefficients_are(hyps: &Hyps, places: usize, v: &Sparse, coefs: &[i128]) -> Option<bool>
     requires vector { IsVector v.now }
     requires range { in_range (length (atoms_of hyps.now)) v.now ≡ true }
     requires small { (k : ℕ) → k < length coefs.now → IsSmall (whole_at coefs.now k) }
-    ensures { result ≡ all_of (coefficient_parts (atoms_of hyps.now) places v.now (whole_at coefs.now)) }
+    ensures { result ≡ all_of
+        (coefficient_parts (atoms_of hyps.now) places v.now (whole_at coefs.now)) }
 {
     for place in 0..places {
         let coef = number_at(coefs, place);
@@ -160,7 +162,8 @@ pub fn line_test(hyps: &Hyps, places: usize, line: &Liveness) -> Option<bool>
     }
 }
 
-/// Whether a keep shows the atom with these coefficients and this constant. Between the signs and the coefficients stands whether the atom is affine.
+/// Whether a keep shows the atom with these coefficients and this constant. Between the signs and
+/// the coefficients stands whether the atom is affine.
 pub fn keep_test(
     hyps: &Hyps,
     places: usize,
@@ -174,7 +177,8 @@ pub fn keep_test(
     requires small { (k : ℕ) → k < length coefs.now → IsSmall (whole_at coefs.now k) }
     requires constant_small { IsSmall constant.now }
     ensures { (more : List Test) → all_of more ≡ Some affine
-        → result ≡ all_of (keep_parts (atoms_of hyps.now) places (record { c0 = constant.now; coefs = coefs.now }) more v.now) }
+        → result ≡ all_of (keep_parts (atoms_of hyps.now) places
+        (record { c0 = constant.now; coefs = coefs.now }) more v.now) }
 {
     if !are_positive(v.items.as_slice()) {
         return Some(false);

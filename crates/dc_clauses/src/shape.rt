@@ -116,7 +116,8 @@ fn case_fits(
     line: &Liveness,
     keeps: &[Sparse],
 ) -> bool
-    ensures { result ≡ keeps_of line.now atoms.now keeps.now && range_of_case (slice_get cases.now number) keeps.now }
+    ensures { result ≡ keeps_of line.now atoms.now keeps.now
+        && range_of_case (slice_get cases.now number) keeps.now }
 {
     has_keeps(line, atoms, keeps) && case_range(cases, number, keeps)
 }
@@ -156,7 +157,8 @@ fn edge_fits(s: &System, x: &SideCert, e: &Edge, c: &EdgeCert) -> bool
 fn edges_fit(s: &System, x: &SideCert) -> bool
     requires part { IsPart s.now x.now }
     requires one_each { length x.now.edges ≡ length s.now.edges }
-    ensures { result ≡ list_all (λ fits. fits) (paired (fits_edge s.now x.now) s.now.edges x.now.edges) }
+    ensures { result ≡ list_all (λ fits. fits)
+        (paired (fits_edge s.now x.now) s.now.edges x.now.edges) }
 {
     let edges = s.edges.as_slice();
     let certs = x.edges.as_slice();

@@ -2,7 +2,8 @@
 ghost use Rattle.std.specs.Prelude.{◌≡◌, ◌∷◌, []};
 ghost use Rattle.dc_clauses.specs.Steps.{counted, first_failure, is_true};
 
-/// A test of a clause, with its index there: true, false, or nothing where a sum that it wants passes 128 bits.
+/// A test of a clause, with its index there: true, false, or nothing where a sum that it wants
+/// passes 128 bits.
 #[derive(Clone, Copy, Debug, PartialEq, Eq)]
 pub struct Step {
     pub clause: u8,

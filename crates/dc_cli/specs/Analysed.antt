@@ -22,7 +22,8 @@ abbrev pub search_of : Settings → Search
 search_of s = record { degree = s.degree; products = s.products; pairs = s.pairs; pivots = s.pivots }
 
 -- the certificate of what texts say
-pub record IsAnalysed (x y : Bytes) (when : Option Bytes) (s : Settings) (left : Meaning) (c : Certificate) : Type 0 where
+pub record IsAnalysed (x y : Bytes) (when : Option Bytes) (s : Settings) (left : Meaning)
+    (c : Certificate) : Type 0 where
   pub new : Proc
   pub old : Proc
   pub cases : List (List Atom)
@@ -45,7 +46,8 @@ IsHalted i (Spent q) = IsHaltedBy i (Spent q)
 IsHalted i refusal = ⊥
 
 -- of texts: what is wrong with them, or the first refusal of what they say
-pub record IsStoppedBy (x y : Bytes) (when : Option Bytes) (s : Settings) (refusal : Refusal) : Type 0 where
+pub record IsStoppedBy (x y : Bytes) (when : Option Bytes) (s : Settings)
+    (refusal : Refusal) : Type 0 where
   pub new : Proc
   pub old : Proc
   pub cases : List (List Atom)

@@ -23,7 +23,8 @@ IsRefusedBy Of refusal = Of (Refused refusal)
 
 -- ---- commands
 -- the output that the texts of files have, where these were handed out
-pub record IsOutput (v : Visit) (files : List File) (Of : List Bytes → End → Type 0) (left : Meaning) (n : ℕ) (bytes : Bytes)
+pub record IsOutput (v : Visit) (files : List File) (Of : List Bytes → End → Type 0)
+    (left : Meaning) (n : ℕ) (bytes : Bytes)
     : Type 0 where
   pub texts : List Bytes
   pub fetched : IsFetched v files texts
@@ -37,7 +38,8 @@ IsRefused v files Of NoMemory = Unit {0}
 IsRefused v files Of (Unread name) = IsStopped v files (string_bytes name)
 IsRefused v files Of Unwritten = ⊥
 IsRefused v files Of Usage = ⊥
-IsRefused v files Of refusal = (texts : List Bytes) × IsFetched v files texts × Of texts (Refused refusal)
+IsRefused v files Of refusal =
+    (texts : List Bytes) × IsFetched v files texts × Of texts (Refused refusal)
 
 -- ---- what words ask for
 -- numbers that the command takes
@@ -54,7 +56,8 @@ IsRefusedOf v read refusal = IsRefused v (files_of read) (ReadingEnds read) refu
 
 -- of words: those that are no command ask for no file
 abbrev pub IsOutputFor : Visit → List Bytes → Meaning → ℕ → Bytes → Type 0
-IsOutputFor v words left n bytes = (read : Reading) × IsReading words read × IsOutputOf v read left n bytes
+IsOutputFor v words left n bytes =
+    (read : Reading) × IsReading words read × IsOutputOf v read left n bytes
 
 abbrev pub IsRefusedFor : Visit → List Bytes → Refusal → Type 0
 IsRefusedFor v words Usage = (takes_words words ≡ false) × v.HandedOut [] []

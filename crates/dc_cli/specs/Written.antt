@@ -8,7 +8,8 @@ use Rattle.dc_answers.specs.Outside.{Visit, Stream, Gains, GainsPart}
 use Rattle.dc_cli.specs.Steps.{IsOutputFor, IsRefusedFor}
 
 -- the whole output was added
-pub record IsPrinted (words : List Bytes) (v : Visit) (out : Stream) (left : Meaning) (n : ℕ) : Type 0 where
+pub record IsPrinted (words : List Bytes) (v : Visit) (out : Stream) (left : Meaning)
+    (n : ℕ) : Type 0 where
   pub bytes : Bytes
   pub due : IsOutputFor v words left n bytes
   pub added : Gains out bytes

@@ -14,14 +14,16 @@ use dc_host::{Sink, Store, put_all};
 use dc_sparse::Cross;
 use std::alloc::Global;
 
-/// Runs the command that the words after the program's name give, and answers the status of the program.
+/// Runs the command that the words after the program's name give, and answers the status of the
+/// program.
 ///
 /// - `analyse NEW OLD [--when TEXT] [--degree 0..3] [--products 1..3] [--rows intervals|pairs] [--pivots 1..1000000]` prints the text of a
 ///   certificate, whose first line is `threshold T`, `none` or `vacuous`; the status is 0, 1 or 2.
 /// - `check NEW OLD CERT [--when TEXT]` prints `accepted` and the certificate's first line; the status is 0.
 /// - `sample SEED COUNT` analyses a generated pair, and prints four lines, the last of which is the claim; the status is as for `analyse`.
 ///
-/// The whole output is built before the first write. Where there is none, its cause has its line on `err`, the first of these:
+/// The whole output is built before the first write. Where there is none, its cause has its line on
+/// `err`, the first of these:
 ///
 /// - 3, the usage: the words are no command;
 /// - 8, `read fault: NAME`: the store handed out no text for NEW, else for OLD, else for CERT;
@@ -32,8 +34,8 @@ use std::alloc::Global;
 /// - 9, `write fault`: `out` has gained a proper prefix of the output alone;
 /// - 10, `no memory`: `out` is as before.
 ///
-/// A command that analyses leaves the tableau at the table at which the run of the main problem ends. A fault of `err` changes neither the
-/// status nor anything else.
+/// A command that analyses leaves the tableau at the table at which the run of the main problem
+/// ends. A fault of `err` changes neither the status nor anything else.
 pub fn top<S: Store, O: Sink, E: Sink>(
     alloc: Global,
     words: &Vec<String>,

@@ -1,7 +1,8 @@
 //! The commands of the program: from the words of the command line to a status.
 //!
-//! [`top`] is the whole program but for its `main`. It decides the answer, writes the output, and reports a refusal by one line on the
-//! error sink and a status. What the answer of words and texts is stands in `dc_answers`.
+//! [`top`] is the whole program but for its `main`. It decides the answer, writes the output, and
+//! reports a refusal by one line on the error sink and a status. What the answer of words and texts
+//! is stands in `dc_answers`.
 #![tactic(auto)]
 
 mod analyse;

@@ -12,8 +12,8 @@ use std::alloc::{AllocError, Global};
 
 const NO_MEMORY: u8 = 10;
 
-/// Writes the line of a refusal, and answers its status. Where there is no memory for the line, the line and the status are those of want
-/// of memory. A fault of `err` changes nothing else.
+/// Writes the line of a refusal, and answers its status. Where there is no memory for the line, the
+/// line and the status are those of want of memory. A fault of `err` changes nothing else.
 pub fn report<E: Sink>(alloc: Global, refusal: &Refusal, err: &mut E) -> u8
     ensures line { IsReported refusal.now (stream_of E.written E.faults err.old err.new) result }
     ensures later { E.faults err.old ≤ E.faults err.new }

@@ -16,7 +16,8 @@ use std::alloc::{AllocError, Global};
 
 const CONDITION: &str = "0 <= n && n <= 50";
 
-/// Analyses the generated pair of a seed. The output has the seed and the count, the lengths of both sources, and the claim.
+/// Analyses the generated pair of a seed. The output has the seed and the count, the lengths of
+/// both sources, and the claim.
 pub fn sample(alloc: Global, seed: u32, count: u32, tableau: &mut Cross) -> Result<Output, Refusal>
     requires seed { seed ≤ 2147483647 }
     requires some { 1 ≤ count }

@@ -20,7 +20,8 @@ pub struct Versions {
     pub cases: Items<Items<Atom>>,
 }
 
-/// What texts say. What is wrong is judged in this order: the new version's text, the old one's, the parameters, the condition.
+/// What texts say. What is wrong is judged in this order: the new version's text, the old one's,
+/// the parameters, the condition.
 pub fn read_sources(
     alloc: Global,
     new: &[u8],
@@ -53,7 +54,8 @@ fn program_in(alloc: Global, at: Text, text: &[u8]) -> Result<Proc, Refusal>
     }
 }
 
-/// The cases of a condition over a program's parameters; without a condition, the one case without atoms.
+/// The cases of a condition over a program's parameters; without a condition, the one case without
+/// atoms.
 fn cases_in(alloc: Global, when: Option<&str>, p: &Proc) -> Result<Items<Items<Atom>>, Refusal>
     requires { IsProgram p.now }
     ensures says { IfOk result (SaysCases (option_map (λ z. z.now) when.entry) p.now) }

@@ -6,8 +6,8 @@ use Rattle.dc_lp.specs.Problems.{coefficient_in, AreEntries, weight, whole_at}
 use Rattle.dc_coefficients.specs.Monomials.{monos_in}
 use Rattle.dc_coefficients.specs.Entries.{entries_from}
 
--- the monomials that have a coefficient in some of the polynomials, and no others, in graded order; that order is strict, so each
--- stands there once
+-- the monomials that have a coefficient in some of the polynomials, and no others, in graded order;
+-- that order is strict, so each stands there once
 abbrev pub HasMono : Exponents → TermList → Type 0
 HasMono m p = coef p m ≢ pos 0
 

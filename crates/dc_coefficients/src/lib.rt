@@ -1,4 +1,5 @@
-//! Coefficients side by side: the monomials of several polynomials, and the entries of a column of coefficients.
+//! Coefficients side by side: the monomials of several polynomials, and the entries of a column of
+//! coefficients.
 #![tactic(auto)]
 
 mod block;

@@ -58,7 +58,8 @@ fn begins(bytes: &[u8], text: &str) -> bool {
     bytes.starts_with(text.as_bytes())
 }
 
-/// Two sources, a condition, degree and products, and then the status and the lines with which the output begins.
+/// Two sources, a condition, degree and products, and then the status and the lines with which the
+/// output begins.
 type Claim = (
     &'static str,
     &'static str,

@@ -1,5 +1,6 @@
-//! Tests of the command: its words, and the whole of it over sources and sinks in memory. The crate has no function of its own; each expected
-//! value was written by hand from `docs/command_line.md`, `docs/certificate.md` and the README.
+//! Tests of the command: its words, and the whole of it over sources and sinks in memory. The crate
+//! has no function of its own; each expected value was written by hand from `docs/command_line.md`,
+//! `docs/certificate.md` and the README.
 #![tactic(auto)]
 
 #[cfg(test)]

@@ -1,4 +1,5 @@
-//! Solving without a limit on pivots: how many a run can make at most, and a call that always comes to the end of the run.
+//! Solving without a limit on pivots: how many a run can make at most, and a call that always comes
+//! to the end of the run.
 #![tactic(auto)]
 
 ghost use Rattle.std.specs.Prelude.{◌≡◌, ◌+◌, ◌<◌, ◌≤◌, ◌^◌, IfOk, SomeIff};
@@ -24,8 +25,9 @@ pub enum EndFault {
     NoMemory,
 }
 
-/// The number of sets of `rows` columns among `columns + rows`: a run over `rows` equations in `columns` unknowns makes fewer pivots.
-/// `None` exactly where it passes 2^64 - 1. It takes no memory.
+/// The number of sets of `rows` columns among `columns + rows`: a run over `rows` equations in
+/// `columns` unknowns makes fewer pivots. `None` exactly where it passes 2^64 - 1. It takes no
+/// memory.
 pub fn bases(rows: usize, columns: usize) -> Option<u64>
     requires rows { rows ≤ 2048 }
     requires columns { columns ≤ 8192 }
@@ -43,7 +45,8 @@ fn grown(count: u64, columns: usize, i: usize) -> Option<u64>
     requires count { count ≡ choose (columns + i) i }
     requires columns { columns ≤ 8192 }
     requires rows { i < 2048 }
-    ensures { SomeIff result (choose (columns + i + 1) (i + 1) < 2 ^ 64) (choose (columns + i + 1) (i + 1)) }
+    ensures { SomeIff result (choose (columns + i + 1) (i + 1) < 2 ^ 64)
+        (choose (columns + i + 1) (i + 1)) }
 {
     let next = count as u128 * (columns + i + 1) as u128 / (i + 1) as u128;
     if next <= u64::MAX as u128 {
@@ -53,13 +56,14 @@ fn grown(count: u64, columns: usize, i: usize) -> Option<u64>
     }
 }
 
-/// Solves a linear problem to the end of its run. The budget is at least the number of sets of m columns among n + m, for m equations
-/// in n unknowns (`bases` tells it), and so is never spent.
+/// Solves a linear problem to the end of its run. The budget is at least the number of sets of m
+/// columns among n + m, for m equations in n unknowns (`bases` tells it), and so is never spent.
 ///
 /// The result is that of `dc_simplex::solve`, with nothing for a spent budget.
 ///
 /// # Errors
-/// `Past128` exactly where a pivot of the run doesn't fit. The tableau is then in no state that is told.
+/// `Past128` exactly where a pivot of the run doesn't fit. The tableau is then in no state that is
+/// told.
 pub fn solve_ended<T: Tableau>(
     alloc: Global,
     p: &Problem,

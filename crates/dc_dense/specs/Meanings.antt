@@ -9,5 +9,9 @@ dense_meaning d = record {
   loaded = d.loaded;
   broken = d.broken;
   ready = d.ready;
-  table = record { real = d.columns; rows = flat (d.rows + 2) d.width d.items.items; basis = d.basis.items };
+  table = record {
+    real = d.columns;
+    rows = flat (d.rows + 2) d.width d.items.items;
+    basis = d.basis.items;
+  };
 }

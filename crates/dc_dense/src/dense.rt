@@ -11,8 +11,8 @@ use dc_lp::{PastPivot, PastQuotient, Problem, Tableau};
 use dc_start::{Candidate, better, start_basis};
 use std::alloc::{AllocError, Global};
 
-/// A tableau in one vector of fractions, row after row. A pivot passes over the zeros of its row, and over the rows with a zero in its
-/// column; it takes no memory.
+/// A tableau in one vector of fractions, row after row. A pivot passes over the zeros of its row,
+/// and over the rows with a zero in its column; it takes no memory.
 #[derive(Drop)]
 pub struct Dense {
     alloc: Global,

@@ -9,7 +9,8 @@ ghost use Rattle.dc_dense.specs.Flat.{item, ChangesWithin, IsDivided, divisions_
 use dc_frac::Frac;
 use dc_start::{quotient, step};
 
-/// Makes the pivot at a place with an entry. Whether it fits; where it doesn't, the items are left half done.
+/// Makes the pivot at a place with an entry. Whether it fits; where it doesn't, the items are left
+/// half done.
 pub fn pivot_items(items: &mut [Frac], height: usize, width: usize, row: usize, col: usize) -> bool
     requires shape { length items.old ≡ height * width }
     requires row { row < height }
@@ -95,7 +96,8 @@ fn reduce(
     requires apart { (from + width ≤ pivot) ⊎ (pivot + width ≤ from) }
     requires column { col < width }
     ensures fits { result ≡ reductions_fit items.old from pivot col (value factor) width }
-    ensures reduced { IsTrue result → IsReduced items.old items.new from pivot col (value factor) width }
+    ensures reduced { IsTrue result
+        → IsReduced items.old items.new from pivot col (value factor) width }
     ensures others { ChangesWithin items.old items.new from width }
 {
     for k in 0..width {

@@ -1,4 +1,5 @@
--- What is wrong first in a text, by the kind of the fault and the place of its byte: the names, and the verdict of the grammar.
+-- What is wrong first in a text, by the kind of the fault and the place of its byte: the names, and
+-- the verdict of the grammar.
 use Rattle.std.specs.Prelude.{ℕ, leb, if◌then◌else◌, List, [], ◌∷◌, ◌++◌, length, drop, Some, None}
 use Rattle.std.specs.declared.option.Option.{Option}
 use Rattle.std.specs.Option.{option_or}
@@ -18,7 +19,8 @@ fault j n = record { kind = j; at = n }
 
 -- ---- names
 
--- of the names that these tokens declare, after the names before: the 11th, also where it repeats, or one that was declared before
+-- of the names that these tokens declare, after the names before: the 11th, also where it repeats,
+-- or one that was declared before
 abbrev pub declared_fault : List ℕ → List (List ℕ) → List Token → Option Fault
 declared_fault text before [] = None
 declared_fault text before (t ∷ ts) =

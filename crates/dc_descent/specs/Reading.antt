@@ -11,10 +11,14 @@ use Rattle.dc_descent.specs.declared.fault.Fault.{Fault}
 use Rattle.dc_descent.specs.declared.fault.Kind.TheVariants as f
 use Rattle.dc_descent.specs.Faults.{verdict_fault}
 
--- what the tokens say as a text of the name x; or want of memory, or the fault of their verdict, where the text ends at a place
-abbrev pub IsRead : {X : Type 0} → Name → (Tree Token → X → Type 0) → List Token → ℕ → Result X Fault → Type 0
+-- what the tokens say as a text of the name x; or want of memory, or the fault of their verdict,
+-- where the text ends at a place
+abbrev pub IsRead : {X : Type 0} → Name → (Tree Token → X → Type 0) → List Token → ℕ
+    → Result X Fault → Type 0
 IsRead x Is ts end (Ok s) = (a : Tree Token) × Finds language IsDeep x ts (whole a) × Is a s
-IsRead x Is ts end (Err e) = (e.kind ≡ f.NoMemory) ⊎ ((v : Verdict Token) × Finds language IsDeep x ts v × (verdict_fault ts end v ≡ Some e))
+IsRead x Is ts end (Err e) =
+    (e.kind ≡ f.NoMemory)
+    ⊎ ((v : Verdict Token) × Finds language IsDeep x ts v × (verdict_fault ts end v ≡ Some e))
 
 -- the tokens up to the first that is too deep, where there is one
 abbrev pub IsCut : List Token → Option ℕ → List Token → Type 0
@@ -28,5 +32,7 @@ at_end (fail us) = unclosed
 
 -- the fault at a token, or none where the reader came to the end and no token is too deep
 abbrev pub Tells : Name → List Token → Out Token → Option Fault → Type 0
-Tells x ts o (Some e) = (v : Verdict Token) × Finds language IsDeep x ts v × ((end : ℕ) → verdict_fault ts end v ≡ Some e)
+Tells x ts o (Some e) =
+    (v : Verdict Token) × Finds language IsDeep x ts v
+    × ((end : ℕ) → verdict_fault ts end v ≡ Some e)
 Tells x ts o None = Finds language IsDeep x ts (at_end o)

@@ -11,11 +11,13 @@ use Rattle.dc_descent.specs.declared.cursor.Stop.TheVariants.{Syntax, NoMemory}
 
 -- why a part stopped at the tokens old, where new are those that it left
 pub data Stops : Rule TokenKind Name → List Token → Stop → List Token → Type 0 where
-  syntax : {r : Rule TokenKind Name} {old new : List Token} → Parses language_reader r old (fail new) → Stops r old Syntax new
+  syntax : {r : Rule TokenKind Name} {old new : List Token}
+      → Parses language_reader r old (fail new) → Stops r old Syntax new
   memory : {r : Rule TokenKind Name} {old new : List Token} → Stops r old NoMemory new
 
 -- what a part answered at the tokens old, where new are those that it left
-abbrev pub Reads : {X : Type 0} → Rule TokenKind Name → (Tree Token → X → Type 0) → List Token → Result X Stop → List Token → Type 0
+abbrev pub Reads : {X : Type 0} → Rule TokenKind Name → (Tree Token → X → Type 0) → List Token
+    → Result X Stop → List Token → Type 0
 Reads r Is old (Ok x) new = (a : Tree Token) × Parses language_reader r old (ok a new) × Is a x
 Reads r Is old (Err e) new = Stops r old e new
 

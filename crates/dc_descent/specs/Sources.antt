@@ -44,7 +44,12 @@ pub record Parts : Type 0 where
 -- "proc" NAME "(" [ names ] ")" "{" [ "var" names ";" ] { stmt } "}"
 abbrev pub parts_of : Tree Token → Parts
 parts_of (pair proc (pair (leaf t) (pair opens (pair ps (pair closes (pair begins (pair ls (pair ss ends)))))))) = record { name = t; params = params_in ps; locals = locals_in ls; body = ss }
-parts_of _ = record { name = record { kind = k.Name; at = 0; end = 0; value = 0 }; params = []; locals = []; body = none }
+parts_of _ = record { name = record {
+  kind = k.Name;
+  at = 0;
+  end = 0;
+  value = 0 }; params = []; locals = []; body = none;
+}
 
 -- the tokens that declare names, in order
 abbrev pub declared : Parts → List Token
@@ -60,17 +65,21 @@ body_of text p = stmts_of (place_in text (names_of text p)) p.body
 
 -- the first fault of the names, by place: they are declared before they are used
 abbrev pub names_fault : List ℕ → Parts → Option Fault
-names_fault text p = option_or (declared_fault text [] (declared p)) (used_fault text (names_of text p) (leaves p.body))
+names_fault text p =
+    option_or (declared_fault text [] (declared p))
+    (used_fault text (names_of text p) (leaves p.body))
 
 -- ---- what the parts answer
 
 -- the tokens of names, put at the end of those so far
-abbrev pub AddsNames : (Tree Token → List Token) → List Token → List Token → Tree Token → Unit {0} → Type 0
+abbrev pub AddsNames : (Tree Token → List Token) → List Token → List Token → Tree Token → Unit {0}
+    → Type 0
 AddsNames f old new a x = new ≡ old ++ f a
 
 -- statements where these tokens declare the names
 pub record IsBody (text : List ℕ) (ts : List Token) (a : Tree Token) (x : Body) : Type 0 where
-  pub fault : x.fault ≡ option_or (declared_fault text [] ts) (used_fault text (map (spelled text) ts) (leaves a))
+  pub fault : x.fault ≡ option_or (declared_fault text [] ts)
+      (used_fault text (map (spelled text) ts) (leaves a))
   pub names : x.fault ≡ None → x.names ≡ map (spelled text) ts
   pub stmts : x.fault ≡ None → x.stmts ≡ stmts_of (place_in text (map (spelled text) ts)) a
   pub starts : x.starts.items ≡ starts_of a

@@ -11,7 +11,8 @@ use Rattle.dc_descent.specs.Trees.{leaves, expr_of, cond_of}
 
 -- [ "(" expr "," expr ")" ]
 abbrev pub range_of : (Token → ℕ) → Tree Token → Option Range
-range_of p (left (pair opens (pair a (pair comma (pair b closes))))) = Some (record { low = expr_of p a; high = expr_of p b })
+range_of p (left (pair opens (pair a (pair comma (pair b closes))))) =
+    Some (record { low = expr_of p a; high = expr_of p b })
 range_of p _ = None
 
 -- "any" of a range, or of all numbers
@@ -45,13 +46,16 @@ abbrev mutual
   -- "tick" expr ";"
   stmt_of p (right (left (pair tick (pair a semi)))) = s.Tick (expr_of p a)
   -- "assume" "(" cond ")" ";"
-  stmt_of p (right (right (left (pair assume (pair opens (pair a (pair closes semi))))))) = s.Assume (cond_of p a)
+  stmt_of p (right (right (left (pair assume (pair opens (pair a (pair closes semi))))))) =
+      s.Assume (cond_of p a)
   -- NAME "=" assigned ";"
-  stmt_of p (right (right (right (left (pair (leaf x) (pair equals (pair a semi))))))) = assigned_of p (p x) a
+  stmt_of p (right (right (right (left (pair (leaf x) (pair equals (pair a semi))))))) =
+      assigned_of p (p x) a
   -- "if" "(" choice ")" block [ "else" block ]
   stmt_of p (right (right (right (right (left (pair if (pair opens (pair c (pair closes (pair a b)))))))))) = branch_by (choice_of p c) (block_of p a) (else_of p b)
   -- "while" "(" choice ")" block
-  stmt_of p (right (right (right (right (right (pair while (pair opens (pair c (pair closes a))))))))) = loop_by (choice_of p c) (block_of p a)
+  stmt_of p (right (right (right (right (right (pair while (pair opens (pair c (pair closes a))))))))) =
+      loop_by (choice_of p c) (block_of p a)
   stmt_of p _ = s.Skip
 
   -- { stmt }
@@ -115,6 +119,7 @@ abbrev pub IsChoice : (Token → ℕ) → Tree Token → Option Cond → Type 0
 IsChoice p a x = choice_of p a ≡ x
 
 -- statements, and the places at which they begin, which are put at the end of the places so far
-pub record IsWith {X : Type 0} (tree : Tree Token → X) (starts : Tree Token → List ℕ) (old new : List ℕ) (a : Tree Token) (x : X) : Type 0 where
+pub record IsWith {X : Type 0} (tree : Tree Token → X) (starts : Tree Token → List ℕ)
+    (old new : List ℕ) (a : Tree Token) (x : X) : Type 0 where
   pub said : tree a ≡ x
   pub begun : new ≡ old ++ starts a

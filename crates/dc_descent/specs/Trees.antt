@@ -1,4 +1,5 @@
--- What the derivation of an expression or a condition says, where p gives the place that a name stands for.
+-- What the derivation of an expression or a condition says, where p gives the place that a name
+-- stands for.
 use Rattle.std.specs.Prelude.{◌≡◌, ℕ, List, [], ◌∷◌, ◌++◌, if◌then◌else◌}
 use Rattle.dc_tokens.specs.declared.token.TokenKind.{TokenKind}
 use Rattle.dc_tokens.specs.declared.token.TokenKind.TheVariants as k
@@ -66,7 +67,8 @@ abbrev mutual
   fact_of p (right (left sign)) = c.True
   fact_of p (right (right (left sign))) = c.False
   fact_of p (right (right (right (left (pair opens (pair a closes)))))) = cond_of p a
-  fact_of p (right (right (right (right (pair a (pair (leaf rel) b)))))) = c.Cmp (expr_of p a) (rel_of rel.kind) (expr_of p b)
+  fact_of p (right (right (right (right (pair a (pair (leaf rel) b)))))) =
+      c.Cmp (expr_of p a) (rel_of rel.kind) (expr_of p b)
   fact_of p _ = c.True
 
   -- fact { "&&" fact }, to the left

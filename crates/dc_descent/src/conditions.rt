@@ -49,7 +49,8 @@ fn rel_of(sign: TokenKind) -> Rel
 
 #[cycle(cond)]
 fn fact(alloc: Global, scope: &Scope<'_>, cursor: &mut Cursor<'_>) -> Result<Cond, Stop>
-    ensures { Reads (ref Name.fact) (IsFact (places scope.now)) cursor.old.rest.now result cursor.new.rest.now }
+    ensures { Reads (ref Name.fact)
+        (IsFact (places scope.now)) cursor.old.rest.now result cursor.new.rest.now }
 {
     if cursor.sees(TokenKind::Bang) {
         cursor.expect(TokenKind::Bang)?;
@@ -76,7 +77,8 @@ fn fact(alloc: Global, scope: &Scope<'_>, cursor: &mut Cursor<'_>) -> Result<Con
 
 #[cycle(cond)]
 fn conj(alloc: Global, scope: &Scope<'_>, cursor: &mut Cursor<'_>) -> Result<Cond, Stop>
-    ensures { Reads (ref Name.conj) (IsConj (places scope.now)) cursor.old.rest.now result cursor.new.rest.now }
+    ensures { Reads (ref Name.conj)
+        (IsConj (places scope.now)) cursor.old.rest.now result cursor.new.rest.now }
 {
     let mut whole = fact(alloc, scope, cursor)?;
     'ands: while cursor.sees(TokenKind::And) {
@@ -90,7 +92,8 @@ fn conj(alloc: Global, scope: &Scope<'_>, cursor: &mut Cursor<'_>) -> Result<Con
 /// A condition.
 #[cycle(cond)]
 pub fn cond(alloc: Global, scope: &Scope<'_>, cursor: &mut Cursor<'_>) -> Result<Cond, Stop>
-    ensures { Reads (ref Name.cond) (IsCond (places scope.now)) cursor.old.rest.now result cursor.new.rest.now }
+    ensures { Reads (ref Name.cond)
+        (IsCond (places scope.now)) cursor.old.rest.now result cursor.new.rest.now }
 {
     let mut whole = conj(alloc, scope, cursor)?;
     'ors: while cursor.sees(TokenKind::Or) {

@@ -54,7 +54,8 @@ impl<'a> Cursor<'a> {
 
     /// Whether the next token is a plus or a minus.
     pub fn sees_sign(&self) -> bool
-        ensures { result ≡ begins language_reader (one TokenKind.Plus (TokenKind.Minus ∷ [])) self.now.rest.now }
+        ensures { result ≡ begins language_reader
+            (one TokenKind.Plus (TokenKind.Minus ∷ [])) self.now.rest.now }
     {
         match self.rest.first() {
             Some(first) => matches!(first.kind, TokenKind::Plus | TokenKind::Minus),
@@ -64,7 +65,9 @@ impl<'a> Cursor<'a> {
 
     /// Whether the next token compares.
     pub fn sees_rel(&self) -> bool
-        ensures { result ≡ begins language_reader (one TokenKind.Lt (TokenKind.Le ∷ TokenKind.Gt ∷ TokenKind.Ge ∷ TokenKind.Eq ∷ TokenKind.Ne ∷ [])) self.now.rest.now }
+        ensures { result ≡ begins language_reader
+            (one TokenKind.Lt (TokenKind.Le ∷ TokenKind.Gt ∷ TokenKind.Ge ∷ TokenKind.Eq
+            ∷ TokenKind.Ne ∷ [])) self.now.rest.now }
     {
         match self.rest.first() {
             Some(first) => matches!(
@@ -143,7 +146,8 @@ impl<'a> Cursor<'a> {
 
     /// Takes a plus or a minus.
     pub fn sign(&mut self) -> Result<Token, Stop>
-        ensures { Takes (one TokenKind.Plus (TokenKind.Minus ∷ [])) self.old.rest.now result self.new.rest.now }
+        ensures { Takes (one TokenKind.Plus
+            (TokenKind.Minus ∷ [])) self.old.rest.now result self.new.rest.now }
     {
         if self.sees_sign() {
             Ok(self.take())
@@ -154,7 +158,9 @@ impl<'a> Cursor<'a> {
 
     /// Takes a sign that compares.
     pub fn rel(&mut self) -> Result<Token, Stop>
-        ensures { Takes (one TokenKind.Lt (TokenKind.Le ∷ TokenKind.Gt ∷ TokenKind.Ge ∷ TokenKind.Eq ∷ TokenKind.Ne ∷ [])) self.old.rest.now result self.new.rest.now }
+        ensures { Takes (one TokenKind.Lt
+            (TokenKind.Le ∷ TokenKind.Gt ∷ TokenKind.Ge ∷ TokenKind.Eq ∷ TokenKind.Ne
+            ∷ [])) self.old.rest.now result self.new.rest.now }
     {
         if self.sees_rel() {
             Ok(self.take())

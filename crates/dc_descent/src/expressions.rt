@@ -38,7 +38,8 @@ fn sum(alloc: Global, sign: TokenKind, a: Expr, b: Expr) -> Result<Expr, AllocEr
 
 #[cycle(expr)]
 fn unary(alloc: Global, scope: &Scope<'_>, cursor: &mut Cursor<'_>) -> Result<Expr, Stop>
-    ensures { Reads (ref Name.unary) (IsUnary (places scope.now)) cursor.old.rest.now result cursor.new.rest.now }
+    ensures { Reads (ref Name.unary)
+        (IsUnary (places scope.now)) cursor.old.rest.now result cursor.new.rest.now }
 {
     if cursor.sees(TokenKind::Minus) {
         cursor.expect(TokenKind::Minus)?;
@@ -60,7 +61,8 @@ fn unary(alloc: Global, scope: &Scope<'_>, cursor: &mut Cursor<'_>) -> Result<Ex
 
 #[cycle(expr)]
 fn term(alloc: Global, scope: &Scope<'_>, cursor: &mut Cursor<'_>) -> Result<Expr, Stop>
-    ensures { Reads (ref Name.term) (IsTerm (places scope.now)) cursor.old.rest.now result cursor.new.rest.now }
+    ensures { Reads (ref Name.term)
+        (IsTerm (places scope.now)) cursor.old.rest.now result cursor.new.rest.now }
 {
     let mut whole = unary(alloc, scope, cursor)?;
     'stars: while cursor.sees(TokenKind::Star) {
@@ -74,7 +76,8 @@ fn term(alloc: Global, scope: &Scope<'_>, cursor: &mut Cursor<'_>) -> Result<Exp
 /// An expression.
 #[cycle(expr)]
 pub fn expr(alloc: Global, scope: &Scope<'_>, cursor: &mut Cursor<'_>) -> Result<Expr, Stop>
-    ensures { Reads (ref Name.expr) (IsExpr (places scope.now)) cursor.old.rest.now result cursor.new.rest.now }
+    ensures { Reads (ref Name.expr)
+        (IsExpr (places scope.now)) cursor.old.rest.now result cursor.new.rest.now }
 {
     let mut whole = term(alloc, scope, cursor)?;
     'signs: while cursor.sees_sign() {

@@ -24,7 +24,9 @@ pub struct Range {
 
 /// The range of `any`, which may be missing.
 fn bounds(alloc: Global, scope: &Scope<'_>, cursor: &mut Cursor<'_>) -> Result<Option<Range>, Stop>
-    ensures { Reads (opt (tok k.LParen ▸ ref Name.expr ▸ tok k.Comma ▸ ref Name.expr ▸ tok k.RParen)) (IsRange (places scope.now)) cursor.old.rest.now result cursor.new.rest.now }
+    ensures { Reads (opt
+        (tok k.LParen ▸ ref Name.expr ▸ tok k.Comma ▸ ref Name.expr ▸ tok k.RParen))
+        (IsRange (places scope.now)) cursor.old.rest.now result cursor.new.rest.now }
 {
     if cursor.sees(TokenKind::LParen) {
         cursor.expect(TokenKind::LParen)?;
@@ -54,7 +56,8 @@ pub fn assigned(
     cursor: &mut Cursor<'_>,
     place: usize,
 ) -> Result<Stmt, Stop>
-    ensures { Reads (ref Name.assigned) (IsAssigned (places scope.now) place) cursor.old.rest.now result cursor.new.rest.now }
+    ensures { Reads (ref Name.assigned)
+        (IsAssigned (places scope.now) place) cursor.old.rest.now result cursor.new.rest.now }
 {
     if cursor.sees_expr() {
         let value = expr(alloc, scope, cursor)?;
@@ -72,7 +75,8 @@ pub fn choice(
     scope: &Scope<'_>,
     cursor: &mut Cursor<'_>,
 ) -> Result<Option<Cond>, Stop>
-    ensures { Reads (ref Name.choice) (IsChoice (places scope.now)) cursor.old.rest.now result cursor.new.rest.now }
+    ensures { Reads (ref Name.choice)
+        (IsChoice (places scope.now)) cursor.old.rest.now result cursor.new.rest.now }
 {
     if cursor.sees(TokenKind::Star) {
         cursor.expect(TokenKind::Star)?;

@@ -16,8 +16,8 @@ use dc_tokens::{Token, TokenKind};
 use sqlite_items::Items;
 use std::alloc::Global;
 
-/// The statements of a source with its names, the first fault of these, and the places at which the statements begin, in preorder. Where
-/// the names have a fault, the statements say nothing.
+/// The statements of a source with its names, the first fault of these, and the places at which the
+/// statements begin, in preorder. Where the names have a fault, the statements say nothing.
 #[derive(Drop)]
 pub struct Body {
     pub names: Names,
@@ -50,7 +50,8 @@ fn inside(
     cursor: &mut Cursor<'_>,
 ) -> Result<Body, Stop>
     requires { IsAscii text.now }
-    ensures { Reads (many (ref Name.stmt)) (IsBody text.now tokens.now) cursor.old.rest.now result cursor.new.rest.now }
+    ensures { Reads (many (ref Name.stmt))
+        (IsBody text.now tokens.now) cursor.old.rest.now result cursor.new.rest.now }
 {
     let declared = declare(alloc, text, tokens)?;
     let scope = Scope {
@@ -75,7 +76,8 @@ fn inside(
 /// A source.
 pub fn procedure(alloc: Global, text: &[u8], cursor: &mut Cursor<'_>) -> Result<Source, Stop>
     requires { IsAscii text.now }
-    ensures { Reads (ref Name.source) (IsSource text.now) cursor.old.rest.now result cursor.new.rest.now }
+    ensures { Reads (ref Name.source)
+        (IsSource text.now) cursor.old.rest.now result cursor.new.rest.now }
 {
     let mut found = Vec::new(alloc);
     cursor.expect(TokenKind::Proc)?;

@@ -27,7 +27,8 @@ fn skip(cursor: &mut Cursor<'_>) -> Result<Stmt, Stop>
 }
 
 fn tick(alloc: Global, scope: &Scope<'_>, cursor: &mut Cursor<'_>) -> Result<Stmt, Stop>
-    ensures { Reads (tok k.Tick ▸ ref Name.expr ▸ tok k.Semi) (IsTick (places scope.now)) cursor.old.rest.now result cursor.new.rest.now }
+    ensures { Reads (tok k.Tick ▸ ref Name.expr ▸ tok k.Semi)
+        (IsTick (places scope.now)) cursor.old.rest.now result cursor.new.rest.now }
 {
     cursor.expect(TokenKind::Tick)?;
     let cost = expr(alloc, scope, cursor)?;
@@ -36,7 +37,8 @@ fn tick(alloc: Global, scope: &Scope<'_>, cursor: &mut Cursor<'_>) -> Result<Stm
 }
 
 fn assume(alloc: Global, scope: &Scope<'_>, cursor: &mut Cursor<'_>) -> Result<Stmt, Stop>
-    ensures { Reads (tok k.Assume ▸ tok k.LParen ▸ ref Name.cond ▸ tok k.RParen ▸ tok k.Semi) (IsAssume (places scope.now)) cursor.old.rest.now result cursor.new.rest.now }
+    ensures { Reads (tok k.Assume ▸ tok k.LParen ▸ ref Name.cond ▸ tok k.RParen ▸ tok k.Semi)
+        (IsAssume (places scope.now)) cursor.old.rest.now result cursor.new.rest.now }
 {
     cursor.expect(TokenKind::Assume)?;
     cursor.expect(TokenKind::LParen)?;
@@ -47,7 +49,8 @@ fn assume(alloc: Global, scope: &Scope<'_>, cursor: &mut Cursor<'_>) -> Result<S
 }
 
 fn assign(alloc: Global, scope: &Scope<'_>, cursor: &mut Cursor<'_>) -> Result<Stmt, Stop>
-    ensures { Reads (tok k.Name ▸ tok k.Assign ▸ ref Name.assigned ▸ tok k.Semi) (IsAssign (places scope.now)) cursor.old.rest.now result cursor.new.rest.now }
+    ensures { Reads (tok k.Name ▸ tok k.Assign ▸ ref Name.assigned ▸ tok k.Semi)
+        (IsAssign (places scope.now)) cursor.old.rest.now result cursor.new.rest.now }
 {
     let name = cursor.expect(TokenKind::Name)?;
     cursor.expect(TokenKind::Assign)?;

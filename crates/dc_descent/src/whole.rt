@@ -31,11 +31,13 @@ fn bounded(tokens: &[Token]) -> (Option<usize>, &[Token])
     }
 }
 
-/// The fault at a token, where a reader of the tokens up to the first that is too deep left so many of them.
+/// The fault at a token, where a reader of the tokens up to the first that is too deep left so many
+/// of them.
 fn fault_at(tokens: &[Token], deep: Option<usize>, part: &[Token], left: usize) -> Option<Fault>
     requires cut { IsCut tokens.now deep part.now }
     requires few { left ≤ length part.now }
-    ensures { (x : Name) (o : Out AnyToken) → Parses language_reader (ref x) part.now o → length (rest o) ≡ left → Tells x tokens.now o result }
+    ensures { (x : Name) (o : Out AnyToken) → Parses language_reader (ref x) part.now o
+        → length (rest o) ≡ left → Tells x tokens.now o result }
 {
     if left > 0 {
         return Some(Fault {
@@ -77,7 +79,8 @@ pub fn read_source(alloc: Global, text: &[u8], tokens: &[Token]) -> Result<Sourc
 
 /// The condition that the tokens of a text are, over the names of the scope.
 pub fn read_condition(alloc: Global, scope: &Scope<'_>, tokens: &[Token]) -> Result<Cond, Fault>
-    ensures { IsRead Name.cond (IsCond (places scope.now)) tokens.now (length scope.now.text.now) result }
+    ensures { IsRead Name.cond (IsCond (places scope.now)) tokens.now
+        (length scope.now.text.now) result }
 {
     let (deep, part) = bounded(tokens);
     let mut cursor = Cursor { rest: part };

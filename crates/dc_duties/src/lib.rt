@@ -1,4 +1,5 @@
-//! What each duty adds to the main problem: its monomials, the parts of the unknowns, the rest and the products.
+//! What each duty adds to the main problem: its monomials, the parts of the unknowns, the rest and
+//! the products.
 #![tactic(auto)]
 
 mod block;

@@ -162,7 +162,8 @@ fn before(
     requires few { vars ≤ 10 }
     requires low { degree mono.now ≤ 3 }
     requires long { length mono.now ≡ vars }
-    ensures terms { IfOk result (λ p. p.terms ≡ when (eqb location edge.now.from) (before_of mono.now)) }
+    ensures terms { IfOk result
+        (λ p. p.terms ≡ when (eqb location edge.now.from) (before_of mono.now)) }
     ensures part { IfOk result (IsPart (vars + 1) 1) }
 {
     if location != edge.from {

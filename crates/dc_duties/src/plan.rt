@@ -88,7 +88,8 @@ impl<'a> Programs<'a> {
     }
 }
 
-/// The programs, the degree of their potentials, how many atoms a product has at most, and the unknowns.
+/// The programs, the degree of their potentials, how many atoms a product has at most, and the
+/// unknowns.
 #[derive(Drop)]
 pub struct Task<'a> {
     pub programs: &'a Programs<'a>,

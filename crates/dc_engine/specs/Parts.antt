@@ -89,7 +89,8 @@ module _ (side : Side) (s : Graph) (cases : List (List Atom)) (live : List Bool)
     pub through : AllDone budget (part_asked side s cases live c part)
 
   abbrev pub PartAsks : List Asked → Type 0
-  PartAsks asked = (p : Part) × IsPart side s cases live c p × (asked ≡ part_asked side s cases live c p)
+  PartAsks asked =
+      (p : Part) × IsPart side s cases live c p × (asked ≡ part_asked side s cases live c p)
 
 -- the lines and both sides
 pub record TellsEarly (i : Input) (v : Versions) (e : Early) : Type 0 where

@@ -65,7 +65,8 @@ pub(crate) fn of_problem(fault: InvFault) -> AnalyseFault
     }
 }
 
-/// A sum that the checker wants passes 128 bits, or memory ran out. It refuses nothing else of a certificate that is made.
+/// A sum that the checker wants passes 128 bits, or memory ran out. It refuses nothing else of a
+/// certificate that is made.
 pub(crate) fn of_check(fault: CheckFault) -> AnalyseFault
     requires { IsFold fault }
     ensures { IsFoldOf fault result }

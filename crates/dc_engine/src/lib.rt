@@ -1,4 +1,5 @@
-//! The analysis of two programs: the problems of its session, solved one after the other, and the certificate that their outcomes give.
+//! The analysis of two programs: the problems of its session, solved one after the other, and the
+//! certificate that their outcomes give.
 #![tactic(auto)]
 
 mod body;

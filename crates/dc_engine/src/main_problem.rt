@@ -37,7 +37,8 @@ pub(crate) fn main_of(
     v: &Versions,
     e: &Early,
 ) -> Result<Problem, AnalyseFault>
-    requires fit { IsFit (pair_in t.now v.now e.now) (degree_of t.now) (products_of t.now) (flags_in e.now) }
+    requires fit { IsFit (pair_in t.now v.now e.now) (degree_of t.now) (products_of t.now)
+        (flags_in e.now) }
     ensures problem { IfOk result (λ p. linear_of p ≡ rational (main_in t.now v.now e.now)) }
     ensures well_formed { IfOk result (λ p. IsWellFormed p) }
     ensures within { IfOk result (λ p. width_of t.now v.now e.now ≡ None) }

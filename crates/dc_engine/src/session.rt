@@ -62,13 +62,15 @@ fn made<T: Tableau>(
     })
 }
 
-/// Analyses two procedures with the same parameters under the cases of a condition, on a tableau that is lent for all problems.
+/// Analyses two procedures with the same parameters under the cases of a condition, on a tableau
+/// that is lent for all problems.
 ///
-/// The certificate is the one that the outcomes of the session give, and the checker accepts it. The tableau is left at the table at which the run of the
-/// main problem ends.
+/// The certificate is the one that the outcomes of the session give, and the checker accepts it.
+/// The tableau is left at the table at which the run of the main problem ends.
 ///
 /// # Errors
-/// `TooLarge`, `Past128` and `Budget` exactly where the first step that is refused is refused so. The tableau is then in no state that is told.
+/// `TooLarge`, `Past128` and `Budget` exactly where the first step that is refused is refused so.
+/// The tableau is then in no state that is told.
 pub fn analyse_on<T: Tableau>(
     alloc: Global,
     new: &Proc,

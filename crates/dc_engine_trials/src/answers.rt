@@ -43,8 +43,8 @@ fn outcome(alloc: Global, row: &Row) -> Result<Answer, Fail> {
 
 const HUNDRED: &str = "0 <= n && n <= 100";
 
-/// A loop that costs twice as much a turn costs one more for each of at most 100 turns, and without a bound there is none. A second
-/// version that costs less saves at least 5 from 5 turns on.
+/// A loop that costs twice as much a turn costs one more for each of at most 100 turns, and without
+/// a bound there is none. A second version that costs less saves at least 5 from 5 turns on.
 #[test]
 fn loops_are_told_apart(rt: HostRuntime) -> Result<(), Fail> {
     let alloc = rt.alloc();
@@ -77,8 +77,8 @@ const CHOSEN: &str = "proc f(n) { var x; x = any(0, n); tick x; }";
 /// A chosen value of which at most half is allowed.
 const HALF: &str = "proc f(n) { var x; x = any(0, n); assume (2*x <= n); tick x; }";
 
-/// Each choice counts for new, and each choice against old. A threshold need not be whole. Two statements that cost `n` and `-n` are one
-/// edge that costs 0.
+/// Each choice counts for new, and each choice against old. A threshold need not be whole. Two
+/// statements that cost `n` and `-n` are one edge that costs 0.
 #[test]
 fn choices_are_worst_cases(rt: HostRuntime) -> Result<(), Fail> {
     let alloc = rt.alloc();
@@ -116,7 +116,8 @@ fn choices_are_worst_cases(rt: HostRuntime) -> Result<(), Fail> {
     Ok(())
 }
 
-/// A loop whose turns cost more and more: with squares the run to 10 decides, without them each turn is charged the dearest one.
+/// A loop whose turns cost more and more: with squares the run to 10 decides, without them each
+/// turn is charged the dearest one.
 #[test]
 fn degrees_decide(rt: HostRuntime) -> Result<(), Fail> {
     let alloc = rt.alloc();
@@ -153,7 +154,8 @@ fn a_square_costs_more_than_a_triangle(rt: HostRuntime) -> Result<(), Fail> {
     Ok(())
 }
 
-/// Where no input is allowed, or new never ends, every threshold is certified. Of several cases the live ones count.
+/// Where no input is allowed, or new never ends, every threshold is certified. Of several cases the
+/// live ones count.
 #[test]
 fn cases_count_where_they_are_live(rt: HostRuntime) -> Result<(), Fail> {
     let alloc = rt.alloc();
@@ -209,8 +211,9 @@ skip; skip; skip; skip; skip; skip; skip; skip; skip; skip; skip; skip; skip; sk
 skip; skip; skip; skip; skip; skip; skip; skip; skip; skip; skip; skip; skip; skip; skip; skip;
 }";
 
-/// The problems of the condition and of the entry take one pivot each, and that of the first edge two; the main problem takes 24, and no
-/// other one so many. Counts of both sides come before all problems, new's first.
+/// The problems of the condition and of the entry take one pivot each, and that of the first edge
+/// two; the main problem takes 24, and no other one so many. Counts of both sides come before all
+/// problems, new's first.
 #[test]
 fn the_first_refusal_is_told(rt: HostRuntime) -> Result<(), Fail> {
     let alloc = rt.alloc();

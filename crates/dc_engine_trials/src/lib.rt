@@ -1,4 +1,5 @@
-//! Tests of analyses: pairs of small programs with the answers that were worked out by hand. The crate has no function of its own.
+//! Tests of analyses: pairs of small programs with the answers that were worked out by hand. The
+//! crate has no function of its own.
 #![tactic(auto)]
 
 #[cfg(test)]

@@ -48,7 +48,8 @@ impl Tableau for Counting {
     }
 }
 
-/// Two empty programs ask four different problems: whether the case is dead, both bounds of the parameter at the entry, and the main one.
+/// Two empty programs ask four different problems: whether the case is dead, both bounds of the
+/// parameter at the entry, and the main one.
 #[test]
 fn each_different_problem_is_loaded(rt: HostRuntime) -> Result<(), Fail> {
     let alloc = rt.alloc();

@@ -33,7 +33,8 @@ fn a_loop_has_three_atoms(rt: HostRuntime) -> Result<(), Fail> {
     Ok(())
 }
 
-/// Two empty programs: version 2, one live case, one location each without atoms, no unknown but 0, and each equation's multiplier 1.
+/// Two empty programs: version 2, one live case, one location each without atoms, no unknown but 0,
+/// and each equation's multiplier 1.
 #[test]
 fn two_empty_programs_have_a_certificate(rt: HostRuntime) -> Result<(), Fail> {
     let alloc = rt.alloc();

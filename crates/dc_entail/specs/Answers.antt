@@ -39,8 +39,10 @@ TellsEmptiness hyps n budget (Dead mult) = TellsDead hyps n budget mult.items
 TellsEmptiness hyps n budget (Live y) = TellsLive hyps n budget y.items
 
 -- ---- least bounds
--- the form is entailed exactly from v on, and the solution of the outcome combines the list to the form and v
-pub record TellsLeast (hyps : List Atom) (form : List ℤ) (budget : ℕ) (v : Frac) (mult : List Frac) : Type 0 where
+-- the form is entailed exactly from v on, and the solution of the outcome combines the list to the
+-- form and v
+pub record TellsLeast (hyps : List Atom) (form : List ℤ) (budget : ℕ) (v : Frac)
+    (mult : List Frac) : Type 0 where
   pub outcome : IsBestAt (rational (sup_problem hyps form)) budget mult
   pub combines : CombinesTo hyps (length form) (whole_at form) (value v) (numbers mult)
   pub least : (w : ℚ) → EntailsFrom hyps form w ↔ (value v ≤ℚ w)

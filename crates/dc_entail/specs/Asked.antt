@@ -36,16 +36,22 @@ IsRefusal (Out n) = Unit {0}
 -- the first of the problems that doesn't come to its end is asked at this place, and this is its answer
 abbrev pub Refuses : ℕ → List Asked → Place → Answer → Type 0
 Refuses budget [] place a = ⊥
-Refuses budget (q ∷ qs) place a = ((place ≡ q.place) × IsRefusal a × Answers budget q a) ⊎ (IsDone budget q × Refuses budget qs place a)
+Refuses budget (q ∷ qs) place a =
+    ((place ≡ q.place) × IsRefusal a × Answers budget q a)
+    ⊎ (IsDone budget q × Refuses budget qs place a)
 
--- the first refusal of two lists joined is that of the first one, or that of the second one where the first one has none
+-- the first refusal of two lists joined is that of the first one, or that of the second one where
+-- the first one has none
 abbrev pub RefusalsJoin : Type 0
 RefusalsJoin = (budget : ℕ) (ps qs : List Asked) (place : Place) (a : Answer)
-    → Refuses budget (ps ++ qs) place a ↔ (Refuses budget ps place a ⊎ (AllDone budget ps × Refuses budget qs place a))
+    → Refuses budget (ps ++ qs) place a
+      ↔ (Refuses budget ps place a ⊎ (AllDone budget ps × Refuses budget qs place a))
 
 -- and no list has both a first refusal and an end for each
 abbrev pub RefusalExcludes : Type 0
-RefusalExcludes = (budget : ℕ) (ps : List Asked) (place : Place) (a : Answer) → Refuses budget ps place a → ¬ AllDone budget ps
+RefusalExcludes =
+    (budget : ℕ) (ps : List Asked) (place : Place) (a : Answer) → Refuses budget ps place a
+    → ¬ AllDone budget ps
 
 -- each list has one or the other
 pub record HasRefusal (budget : ℕ) (ps : List Asked) : Type 0 where

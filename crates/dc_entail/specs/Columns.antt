@@ -6,7 +6,8 @@ use Rattle.dc_lp.specs.declared.Entry.{Entry}
 use Rattle.dc_lp.specs.Problems.{AreEntries, coefficient_in, weight}
 use Rattle.dc_points.specs.Stated.{coefficient_of}
 
--- entries below `rows` whose values are f 0, f 1 and so on, each of the size that an atom's numbers have at most
+-- entries below `rows` whose values are f 0, f 1 and so on, each of the size that an atom's numbers
+-- have at most
 pub record IsColumnOf (rows : ℕ) (f : ℕ → ℤ) (es : List Entry) : Type 0 where
   pub entries : AreEntries 0 rows es
   pub light : weight es ≤ 2147483648 * rows

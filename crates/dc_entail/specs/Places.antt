@@ -12,12 +12,17 @@ side_text Old = codes "old"
 
 abbrev pub place_text : Place → List ℕ
 place_text (When c) = codes "when " ++ decimal c
-place_text (EntryRow s c r) = side_text s ++ (codes " entry case " ++ (decimal c ++ (codes " row " ++ decimal r)))
+place_text (EntryRow s c r) =
+    side_text s ++ (codes " entry case " ++ (decimal c ++ (codes " row " ++ decimal r)))
 place_text (Edge s e) = side_text s ++ (codes " edge " ++ decimal e)
-place_text (EdgeRow s e r) = side_text s ++ (codes " edge " ++ (decimal e ++ (codes " row " ++ decimal r)))
-place_text (Prune s l r) = side_text s ++ (codes " prune " ++ (decimal l ++ (codes " row " ++ decimal r)))
-place_text (KeptEntry s c a) = side_text s ++ (codes " kept entry case " ++ (decimal c ++ (codes " atom " ++ decimal a)))
+place_text (EdgeRow s e r) =
+    side_text s ++ (codes " edge " ++ (decimal e ++ (codes " row " ++ decimal r)))
+place_text (Prune s l r) =
+    side_text s ++ (codes " prune " ++ (decimal l ++ (codes " row " ++ decimal r)))
+place_text (KeptEntry s c a) =
+    side_text s ++ (codes " kept entry case " ++ (decimal c ++ (codes " atom " ++ decimal a)))
 place_text (KeptEdge s e) = side_text s ++ (codes " kept edge " ++ decimal e)
-place_text (KeptAtom s e a) = side_text s ++ (codes " kept edge " ++ (decimal e ++ (codes " atom " ++ decimal a)))
+place_text (KeptAtom s e a) =
+    side_text s ++ (codes " kept edge " ++ (decimal e ++ (codes " atom " ++ decimal a)))
 place_text (Exit s) = side_text s ++ codes " exit"
 place_text Main = codes "main"

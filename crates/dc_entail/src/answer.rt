@@ -11,14 +11,16 @@ use std::fmt;
 pub enum Emptiness {
     /// None does: `mult`, one for each atom and at least 0, combines the atoms to -1.
     Dead { mult: Vec<Frac> },
-    /// One does, which `y` names: its coordinates are the parts of `y` but for the last one, divided by that one, which is negative.
+    /// One does, which `y` names: its coordinates are the parts of `y` but for the last one,
+    /// divided by that one, which is negative.
     Live { y: Vec<Frac> },
 }
 
 /// From which number on a form is entailed.
 #[derive(Debug, Drop)]
 pub enum Sup {
-    /// From `value` on: `mult`, one for each atom and at least 0, combines the atoms to the form and `value` more.
+    /// From `value` on: `mult`, one for each atom and at least 0, combines the atoms to the form
+    /// and `value` more.
     At { value: Frac, mult: Vec<Frac> },
     /// From none on: `y`, one for each place, refutes the problem of the form.
     NoBound { y: Vec<Frac> },
@@ -26,7 +28,8 @@ pub enum Sup {
 
 /// Which problem of an analysis. Cases, rows, edges, locations and atoms are numbered from 0.
 ///
-/// It is written as the words of its line: `when 0`, `new edge 2 row 1`, `old kept entry case 0 atom 3`, `main`.
+/// It is written as the words of its line: `when 0`, `new edge 2 row 1`, `old kept entry case 0
+/// atom 3`, `main`.
 #[derive(Clone, Copy, Debug, PartialEq)]
 pub enum Place {
     /// Whether a case of the condition is dead.

@@ -13,14 +13,16 @@ use dc_lp::{Problem, Tableau};
 use dc_simplex::{Outcome, SolveFault, solve};
 use std::alloc::{AllocError, Global};
 
-/// Whether any rational point meets the atoms, which have at most `places` coefficients, by at most `budget` pivots on a tableau that
-/// is lent as working space.
+/// Whether any rational point meets the atoms, which have at most `places` coefficients, by at most
+/// `budget` pivots on a tableau that is lent as working space.
 ///
-/// `Dead` exactly where none does, with the solution of the outcome of the problem that `empty_problem` states; `Live` exactly where one
-/// does, with the refutation of that outcome, of `places + 1` numbers.
+/// `Dead` exactly where none does, with the solution of the outcome of the problem that
+/// `empty_problem` states; `Live` exactly where one does, with the refutation of that outcome, of
+/// `places + 1` numbers.
 ///
 /// # Errors
-/// `Past128` and `Budget` exactly where the run of that problem has them. The tableau is left in no state that is told.
+/// `Past128` and `Budget` exactly where the run of that problem has them. The tableau is left in no
+/// state that is told.
 pub fn empty<T: Tableau>(
     alloc: Global,
     hyps: &[Atom],
@@ -44,14 +46,17 @@ pub fn empty<T: Tableau>(
     }
 }
 
-/// From which number on a form is entailed by atoms that some point meets, by at most `budget` pivots on a tableau that is lent as
-/// working space. The form has a coefficient for each place; the sum of their sizes is below 2^70.
+/// From which number on a form is entailed by atoms that some point meets, by at most `budget`
+/// pivots on a tableau that is lent as working space. The form has a coefficient for each place;
+/// the sum of their sizes is below 2^70.
 ///
-/// `At` with the least number, where there is one, and the solution of the outcome of the problem that `sup_problem` states; `NoBound`
-/// exactly where the form is entailed from no number on, with the refutation of that outcome.
+/// `At` with the least number, where there is one, and the solution of the outcome of the problem
+/// that `sup_problem` states; `NoBound` exactly where the form is entailed from no number on, with
+/// the refutation of that outcome.
 ///
 /// # Errors
-/// `Past128` and `Budget` exactly where the run of that problem has them. The tableau is left in no state that is told.
+/// `Past128` and `Budget` exactly where the run of that problem has them. The tableau is left in no
+/// state that is told.
 pub fn sup<T: Tableau>(
     alloc: Global,
     hyps: &[Atom],
@@ -77,8 +82,9 @@ pub fn sup<T: Tableau>(
     }
 }
 
-/// The problem that `empty` solves: a column for each atom, an equation for each place with the coefficients and right side 0, and a last
-/// equation with the constants and right side -1; no column costs.
+/// The problem that `empty` solves: a column for each atom, an equation for each place with the
+/// coefficients and right side 0, and a last equation with the constants and right side -1; no
+/// column costs.
 pub fn empty_problem(alloc: Global, hyps: &[Atom], places: usize) -> Result<Problem, AllocError>
     requires atoms { AllAtoms (IsAtom places) hyps.now }
     ensures problem { IfOk result (λ p. linear_of p ≡ rational (empty_problem_of hyps.now places)) }
@@ -102,8 +108,9 @@ pub fn empty_problem(alloc: Global, hyps: &[Atom], places: usize) -> Result<Prob
     })
 }
 
-/// The problem that `sup` solves: a column for each atom, which costs the atom's constant, and an equation for each place with the
-/// coefficients and the form's as right side. Here the atoms may be dead.
+/// The problem that `sup` solves: a column for each atom, which costs the atom's constant, and an
+/// equation for each place with the coefficients and the form's as right side. Here the atoms may
+/// be dead.
 pub fn sup_problem(alloc: Global, hyps: &[Atom], form: &[i128]) -> Result<Problem, AllocError>
     requires atoms { AllAtoms (IsAtom (length form.now)) hyps.now }
     requires light { sum_by unsigned_abs form.now < 2 ^ 70 }

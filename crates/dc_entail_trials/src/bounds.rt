@@ -110,7 +110,8 @@ fn wide(rt: HostRuntime) -> Result<(), Fail> {
     Ok(())
 }
 
-// x5 over x0, x1 - M*x0, .., x5 - M*x4: the multiplier of the first is M^5, which passes 128 bits; a spent budget is judged first
+// x5 over x0, x1 - M*x0, .., x5 - M*x4: the multiplier of the first is M^5, which passes 128 bits;
+// a spent budget is judged first
 #[test]
 fn too_wide(rt: HostRuntime) -> Result<(), Fail> {
     let alloc = rt.alloc();

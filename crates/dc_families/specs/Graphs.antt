@@ -1,12 +1,13 @@
--- Graphs of edges between numbered locations: a system, or what is left of it where one of its locations is folded into its edges.
+-- Graphs of edges between numbered locations: a system, or what is left of it where one of its
+-- locations is folded into its edges.
 use Rattle.std.specs.Prelude.{ℕ, ◌≤◌, List}
 use Rattle.std.specs.List.{AllByRecursion}
 use Rattle.dc_system.specs.declared.edges.Edge.{Edge}
 use Rattle.dc_system.specs.declared.edges.System.{System}
 use Rattle.dc_system.specs.Shapes.{IsEdge, IsWithin as EndsWithin}
 
--- Edges over so many variables, of which the first are the parameters. Of the locations 0 is the entry and the last one the exit; a
--- location may have no edges.
+-- Edges over so many variables, of which the first are the parameters. Of the locations 0 is the
+-- entry and the last one the exit; a location may have no edges.
 pub record Graph : Type 0 where
   pub vars : ℕ
   pub params : ℕ

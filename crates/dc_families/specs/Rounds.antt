@@ -18,8 +18,8 @@ pub record MeetsFamily (J : Family) (l : ℕ) (p : Point) : Type 0 where
 abbrev pub CasesGive : Graph → List (List Atom) → Atom → Type 0
 CasesGive s cases a = (case : List Atom) → Among case cases → Entails case (at_start s.params a)
 
--- wherever the atoms of its source and its guard hold, the atom after the edge is affine and holds; so where it isn't affine, they hold
--- nowhere
+-- wherever the atoms of its source and its guard hold, the atom after the edge is affine and holds;
+-- so where it isn't affine, they hold nowhere
 abbrev pub EdgeGives : Graph → Family → Edge → Atom → Type 0
 EdgeGives s J e a = (p : Point) → MeetsFamily J e.from p → MeetsAll p e.guard
     → (is_affine_after e a.coefs ≡ true) × MeetsAt p (atom_after s.vars e a)
@@ -48,7 +48,8 @@ IsOver n J = (l : ℕ) (a : Atom) → J l a ≡ true → length a.coefs ≤ n
 abbrev pub HasCandidates : Graph → Candidates → Family → Type 0
 HasCandidates s c J = IsWithin J (everything s c)
 
-pub record IsGreatest (s : Graph) (cases : List (List Atom)) (c : Candidates) (J : Family) : Type 0 where
+pub record IsGreatest (s : Graph) (cases : List (List Atom)) (c : Candidates)
+    (J : Family) : Type 0 where
   pub candidates : HasCandidates s c J
   pub inductive : IsInductive s cases J
   pub contains : (K : Family) → HasCandidates s c K → IsInductive s cases K → IsWithin K J

@@ -12,7 +12,8 @@ pub fn systems_are_graphs()
     ensures folded { FoldsAreGraphs }
 {}
 
-/// What a path reaches from an allowed input meets each inductive family that mentions no chosen value, as no family of candidates does.
+/// What a path reaches from an allowed input meets each inductive family that mentions no chosen
+/// value, as no family of candidates does.
 pub fn reached_states_meet()
     ensures reached { ReachedMeet }
     ensures over { CandidatesAreOver }
@@ -44,8 +45,8 @@ pub fn lists_are_families()
     ensures { ListsAreFamilies }
 {}
 
-/// There is one list of printed atoms for each location; it says what the location's list says, and so the printed atoms of the greatest
-/// family are an inductive family.
+/// There is one list of printed atoms for each location; it says what the location's list says, and
+/// so the printed atoms of the greatest family are an inductive family.
 pub fn printed_atoms()
     ensures some { HasPrinted }
     ensures one { OnePrinted }

@@ -17,17 +17,21 @@ operators = k.Plus ∷ k.Minus ∷ k.Star ∷ k.Bang ∷ k.And ∷ k.Or ∷ []
 
 -- the other tokens of which expressions and conditions are made
 abbrev pub operands : List TokenKind
-operands = k.Number ∷ k.Name ∷ k.True ∷ k.False ∷ k.LParen ∷ k.RParen ∷ k.LBracket ∷ k.RBracket ∷ k.Eq ∷ k.Ne ∷ k.Lt ∷ k.Le ∷ k.Gt ∷ k.Ge ∷ []
+operands =
+    k.Number ∷ k.Name ∷ k.True ∷ k.False ∷ k.LParen ∷ k.RParen ∷ k.LBracket ∷ k.RBracket ∷ k.Eq
+    ∷ k.Ne ∷ k.Lt ∷ k.Le ∷ k.Gt ∷ k.Ge ∷ []
 
 abbrev pub brackets_with : ℕ → Token → ℕ
-brackets_with n t = if has is opening t.kind then n + 1 else (if has is closing t.kind then n - 1 else n)
+brackets_with n t =
+    if has is opening t.kind then n + 1 else (if has is closing t.kind then n - 1 else n)
 
 -- the brackets that are open after these tokens
 unfoldable pub open_brackets : List Token → ℕ
 open_brackets = fold brackets_with 0
 
 abbrev pub operators_with : ℕ → Token → ℕ
-operators_with n t = if has is operators t.kind then n + 1 else (if has is operands t.kind then n else 0)
+operators_with n t =
+    if has is operators t.kind then n + 1 else (if has is operands t.kind then n else 0)
 
 -- the operators since the last token that stands in no expression and no condition
 unfoldable pub operators_so_far : List Token → ℕ

@@ -51,14 +51,18 @@ pub data Tree (T : Type 0) : Type 0 where
 
 -- the rule derives the tokens, in this way
 pub data Derives {K N T : Type 0} (G : Grammar K N T) : Rule K N → List T → Tree T → Type 0 where
-  token : {j : K} {ks : List K} {t : T} → has G.same (j ∷ ks) (G.kind t) ≡ true → Derives G (one j ks) (t ∷ []) (leaf t)
+  token : {j : K} {ks : List K} {t : T} → has G.same (j ∷ ks) (G.kind t) ≡ true
+      → Derives G (one j ks) (t ∷ []) (leaf t)
   nothing : Derives G nil [] none
   name : {x : N} {u : List T} {a : Tree T} → Derives G (G.rules x) u a → Derives G (ref x) u a
-  both : {r s : Rule K N} {u v : List T} {a b : Tree T} → Derives G r u a → Derives G s v b → Derives G (seq r s) (u ++ v) (pair a b)
+  both : {r s : Rule K N} {u v : List T} {a b : Tree T} → Derives G r u a → Derives G s v b
+      → Derives G (seq r s) (u ++ v) (pair a b)
   first : {r s : Rule K N} {u : List T} {a : Tree T} → Derives G r u a → Derives G (alt r s) u (left a)
-  second : {r s : Rule K N} {u : List T} {a : Tree T} → Derives G s u a → Derives G (alt r s) u (right a)
+  second : {r s : Rule K N} {u : List T} {a : Tree T} → Derives G s u a
+      → Derives G (alt r s) u (right a)
   no_more : {r : Rule K N} → Derives G (many r) [] none
-  one_more : {r : Rule K N} {u v : List T} {a b : Tree T} → Derives G r u a → Derives G (many r) v b → Derives G (many r) (u ++ v) (pair a b)
+  one_more : {r : Rule K N} {u v : List T} {a b : Tree T} → Derives G r u a → Derives G (many r) v b
+      → Derives G (many r) (u ++ v) (pair a b)
 
 -- some text of the name begins with these tokens
 abbrev pub Viable : {K N T : Type 0} → Grammar K N T → N → List T → Type 0

@@ -45,6 +45,9 @@ is i j = nat_eq (number i) (number j)
 
 -- all kinds, in the order of their numbers
 abbrev pub kinds : List TokenKind
-kinds = k.Name ∷ k.Number ∷ k.Proc ∷ k.Var ∷ k.Skip ∷ k.Tick ∷ k.Any ∷ k.Assume ∷ k.If ∷ k.Else ∷ k.While ∷ k.True ∷ k.False
-    ∷ k.LParen ∷ k.RParen ∷ k.LBrace ∷ k.RBrace ∷ k.LBracket ∷ k.RBracket ∷ k.Comma ∷ k.Semi ∷ k.Assign ∷ k.Eq ∷ k.Ne ∷ k.Lt ∷ k.Le ∷ k.Gt ∷ k.Ge
+kinds =
+    k.Name ∷ k.Number ∷ k.Proc ∷ k.Var ∷ k.Skip ∷ k.Tick ∷ k.Any ∷ k.Assume ∷ k.If ∷ k.Else
+    ∷ k.While ∷ k.True ∷ k.False
+    ∷ k.LParen ∷ k.RParen ∷ k.LBrace ∷ k.RBrace ∷ k.LBracket ∷ k.RBracket ∷ k.Comma ∷ k.Semi
+      ∷ k.Assign ∷ k.Eq ∷ k.Ne ∷ k.Lt ∷ k.Le ∷ k.Gt ∷ k.Ge
     ∷ k.Plus ∷ k.Minus ∷ k.Star ∷ k.Bang ∷ k.And ∷ k.Or ∷ []

@@ -6,8 +6,8 @@ use Rattle.dc_tokens.specs.declared.token.Token.{Token}
 use Rattle.dc_grammar.specs.Kinds.{is}
 use Rattle.dc_grammar.specs.Grammar.{Rule, one, ref, many, tok, ◌▸◌, ◌or◌, opt, Grammar}
 
--- the names that have a rule: a source, a list of names, a statement, what is assigned, the condition or choice of a branch or loop, a block,
--- and the layers of expressions and of conditions
+-- the names that have a rule: a source, a list of names, a statement, what is assigned, the
+-- condition or choice of a branch or loop, a block, and the layers of expressions and of conditions
 pub data Name : Type 0 where
   source names stmt assigned choice block expr term unary cond conj fact : Name
 
@@ -26,7 +26,8 @@ rules stmt =
     or tok k.If ▸ tok k.LParen ▸ ref choice ▸ tok k.RParen ▸ ref block ▸ opt (tok k.Else ▸ ref block)
     or tok k.While ▸ tok k.LParen ▸ ref choice ▸ tok k.RParen ▸ ref block
 -- expr | "any" [ "(" expr "," expr ")" ]
-rules assigned = ref expr or tok k.Any ▸ opt (tok k.LParen ▸ ref expr ▸ tok k.Comma ▸ ref expr ▸ tok k.RParen)
+rules assigned =
+    ref expr or tok k.Any ▸ opt (tok k.LParen ▸ ref expr ▸ tok k.Comma ▸ ref expr ▸ tok k.RParen)
 -- "*" | cond
 rules choice = tok k.Star or ref cond
 -- "{" { stmt } "}"
@@ -36,7 +37,8 @@ rules expr = ref term ▸ many (one k.Plus (k.Minus ∷ []) ▸ ref term)
 -- unary { "*" unary }
 rules term = ref unary ▸ many (tok k.Star ▸ ref unary)
 -- "-" unary | NUMBER | NAME | "(" expr ")"
-rules unary = tok k.Minus ▸ ref unary or tok k.Number or tok k.Name or tok k.LParen ▸ ref expr ▸ tok k.RParen
+rules unary =
+    tok k.Minus ▸ ref unary or tok k.Number or tok k.Name or tok k.LParen ▸ ref expr ▸ tok k.RParen
 -- conj { "||" conj }
 rules cond = ref conj ▸ many (tok k.Or ▸ ref conj)
 -- fact { "&&" fact }

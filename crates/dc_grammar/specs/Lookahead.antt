@@ -21,8 +21,12 @@ ll1 R ks (one j js) f = true
 ll1 R ks nil f = true
 ll1 R ks (ref x) f = every ks (λ k. implies (f k) (has R.grammar.same (R.follow x) k))
 ll1 R ks (seq r s) f = ll1 R ks r (then_ R s f) && ll1 R ks s f
-ll1 R ks (alt r s) f = not (nullable R r) && (every ks (λ k. not (firsts R r k && then_ R s f k)) && (ll1 R ks r f && ll1 R ks s f))
-ll1 R ks (many r) f = not (nullable R r) && (every ks (λ k. not (firsts R r k && f k)) && ll1 R ks r (λ k. firsts R r k || f k))
+ll1 R ks (alt r s) f =
+    not (nullable R r) && (every ks (λ k. not (firsts R r k && then_ R s f k))
+    && (ll1 R ks r f && ll1 R ks s f))
+ll1 R ks (many r) f =
+    not (nullable R r) && (every ks (λ k. not (firsts R r k && f k))
+    && ll1 R ks r (λ k. firsts R r k || f k))
 
 -- each name that the rule may take before it has taken a token has a rank below k
 unfoldable pub below : {K N T : Type 0} → Reader K N T → (N → ℕ) → ℕ → Rule K N → Bool
@@ -46,5 +50,7 @@ pub record LooksAhead {K N T : Type 0} (R : Reader K N T) : Type 0 where
   -- each name has a text
   pub some_text : (x : N) → (u : List T) × (a : Tree T) × Derives R.grammar (R.grammar.rules x) u a
   pub empty_right : (x : N) → implies (nullable R (R.grammar.rules x)) (R.empty x) ≡ true
-  pub begins_right : (x : N) → every kinds (λ k. implies (firsts R (R.grammar.rules x) k) (has R.grammar.same (R.begins x) k)) ≡ true
+  pub begins_right : (x : N)
+      → every kinds (λ k. implies (firsts R (R.grammar.rules x) k)
+      (has R.grammar.same (R.begins x) k)) ≡ true
   pub one_way : (x : N) → ll1 R kinds (R.grammar.rules x) (has R.grammar.same (R.follow x)) ≡ true

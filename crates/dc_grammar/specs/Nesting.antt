@@ -14,17 +14,20 @@ pub data Pair : TokenKind → TokenKind → Type 0 where
   squares : Pair k.LBracket k.RBracket
   braces : Pair k.LBrace k.RBrace
 
--- from these open brackets, the last one first, the tokens lead to those: each closing bracket closes the last one that is open
+-- from these open brackets, the last one first, the tokens lead to those: each closing bracket
+-- closes the last one that is open
 pub data Nests : List TokenKind → List Token → List TokenKind → Type 0 where
   nothing : {s : List TokenKind} → Nests s [] s
   opens : {s u : List TokenKind} {t : Token} {ts : List Token} → has is opening t.kind ≡ true
       → Nests (t.kind ∷ s) ts u → Nests s (t ∷ ts) u
   closes : {s u : List TokenKind} {j : TokenKind} {t : Token} {ts : List Token} → Pair j t.kind
       → Nests s ts u → Nests (j ∷ s) (t ∷ ts) u
-  passes : {s u : List TokenKind} {t : Token} {ts : List Token} → has is opening t.kind ≡ false → has is closing t.kind ≡ false
+  passes : {s u : List TokenKind} {t : Token} {ts : List Token} → has is opening t.kind ≡ false
+      → has is closing t.kind ≡ false
       → Nests s ts u → Nests s (t ∷ ts) u
 
--- in what begins a text each closing bracket closes the last one that is open, and the scan counts those that stay open
+-- in what begins a text each closing bracket closes the last one that is open, and the scan counts
+-- those that stay open
 abbrev pub CountsOpen : Type 0
 CountsOpen = (x : Name) (ts : List Token) → Viable language x ts
     → (open_ones : List TokenKind) × Nests [] ts open_ones × (open_brackets ts ≡ length open_ones)

@@ -53,4 +53,9 @@ follow_of lang.conj = k.RParen ∷ k.RBracket ∷ k.Or ∷ []
 follow_of lang.fact = after_fact
 
 abbrev pub language_reader : Reader TokenKind lang.Name Token
-language_reader = record { grammar = lang.language; empty = λ x. false; begins = begins_of; follow = follow_of }
+language_reader = record {
+  grammar = lang.language;
+  empty = λ x. false;
+  begins = begins_of;
+  follow = follow_of;
+}

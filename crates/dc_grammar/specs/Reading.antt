@@ -49,19 +49,35 @@ at (ok a ts) us = ok a us
 at (fail ts) us = fail us
 
 pub data Parses {K N T : Type 0} (R : Reader K N T) : Rule K N → List T → Out T → Type 0 where
-  one-ok : {j : K} {ks : List K} {t : T} {ts : List T} → has R.grammar.same (j ∷ ks) (R.grammar.kind t) ≡ true → Parses R (one j ks) (t ∷ ts) (ok (leaf t) ts)
-  one-bad : {j : K} {ks : List K} {t : T} {ts : List T} → has R.grammar.same (j ∷ ks) (R.grammar.kind t) ≡ false → Parses R (one j ks) (t ∷ ts) (fail (t ∷ ts))
+  one-ok : {j : K} {ks : List K} {t : T} {ts : List T}
+      → has R.grammar.same (j ∷ ks) (R.grammar.kind t) ≡ true
+      → Parses R (one j ks) (t ∷ ts) (ok (leaf t) ts)
+  one-bad : {j : K} {ks : List K} {t : T} {ts : List T}
+      → has R.grammar.same (j ∷ ks) (R.grammar.kind t) ≡ false
+      → Parses R (one j ks) (t ∷ ts) (fail (t ∷ ts))
   one-end : {j : K} {ks : List K} → Parses R (one j ks) [] (fail [])
   nil-ok : {ts : List T} → Parses R nil ts (ok none ts)
-  name-of : {x : N} {ts : List T} {o : Out T} → Parses R (R.grammar.rules x) ts o → Parses R (ref x) ts o
-  seq-ok : {r s : Rule K N} {ts us vs : List T} {a b : Tree T} → Parses R r ts (ok a us) → Parses R s us (ok b vs) → Parses R (seq r s) ts (ok (pair a b) vs)
-  seq-bad : {r s : Rule K N} {ts us : List T} → Parses R r ts (fail us) → Parses R (seq r s) ts (fail us)
-  seq-stops : {r s : Rule K N} {ts us vs : List T} {a : Tree T} → Parses R r ts (ok a us) → Parses R s us (fail vs) → Parses R (seq r s) ts (fail vs)
-  left-ok : {r s : Rule K N} {ts us : List T} {a : Tree T} → begins R r ts ≡ true → Parses R r ts (ok a us) → Parses R (alt r s) ts (ok (left a) us)
-  left-bad : {r s : Rule K N} {ts us : List T} → begins R r ts ≡ true → Parses R r ts (fail us) → Parses R (alt r s) ts (fail us)
-  right-ok : {r s : Rule K N} {ts us : List T} {a : Tree T} → begins R r ts ≡ false → Parses R s ts (ok a us) → Parses R (alt r s) ts (ok (right a) us)
-  right-bad : {r s : Rule K N} {ts us : List T} → begins R r ts ≡ false → Parses R s ts (fail us) → Parses R (alt r s) ts (fail us)
+  name-of : {x : N} {ts : List T} {o : Out T} → Parses R (R.grammar.rules x) ts o
+      → Parses R (ref x) ts o
+  seq-ok : {r s : Rule K N} {ts us vs : List T} {a b : Tree T} → Parses R r ts (ok a us)
+      → Parses R s us (ok b vs) → Parses R (seq r s) ts (ok (pair a b) vs)
+  seq-bad : {r s : Rule K N} {ts us : List T} → Parses R r ts (fail us)
+      → Parses R (seq r s) ts (fail us)
+  seq-stops : {r s : Rule K N} {ts us vs : List T} {a : Tree T} → Parses R r ts (ok a us)
+      → Parses R s us (fail vs) → Parses R (seq r s) ts (fail vs)
+  left-ok : {r s : Rule K N} {ts us : List T} {a : Tree T} → begins R r ts ≡ true
+      → Parses R r ts (ok a us) → Parses R (alt r s) ts (ok (left a) us)
+  left-bad : {r s : Rule K N} {ts us : List T} → begins R r ts ≡ true → Parses R r ts (fail us)
+      → Parses R (alt r s) ts (fail us)
+  right-ok : {r s : Rule K N} {ts us : List T} {a : Tree T} → begins R r ts ≡ false
+      → Parses R s ts (ok a us) → Parses R (alt r s) ts (ok (right a) us)
+  right-bad : {r s : Rule K N} {ts us : List T} → begins R r ts ≡ false → Parses R s ts (fail us)
+      → Parses R (alt r s) ts (fail us)
   many-end : {r : Rule K N} {ts : List T} → begins R r ts ≡ false → Parses R (many r) ts (ok none ts)
-  many-ok : {r : Rule K N} {ts us vs : List T} {a b : Tree T} → begins R r ts ≡ true → Parses R r ts (ok a us) → Parses R (many r) us (ok b vs) → Parses R (many r) ts (ok (pair a b) vs)
-  many-bad : {r : Rule K N} {ts us : List T} → begins R r ts ≡ true → Parses R r ts (fail us) → Parses R (many r) ts (fail us)
-  many-stops : {r : Rule K N} {ts us vs : List T} {a : Tree T} → begins R r ts ≡ true → Parses R r ts (ok a us) → Parses R (many r) us (fail vs) → Parses R (many r) ts (fail vs)
+  many-ok : {r : Rule K N} {ts us vs : List T} {a b : Tree T} → begins R r ts ≡ true
+      → Parses R r ts (ok a us) → Parses R (many r) us (ok b vs)
+      → Parses R (many r) ts (ok (pair a b) vs)
+  many-bad : {r : Rule K N} {ts us : List T} → begins R r ts ≡ true → Parses R r ts (fail us)
+      → Parses R (many r) ts (fail us)
+  many-stops : {r : Rule K N} {ts us vs : List T} {a : Tree T} → begins R r ts ≡ true
+      → Parses R r ts (ok a us) → Parses R (many r) us (fail vs) → Parses R (many r) ts (fail vs)

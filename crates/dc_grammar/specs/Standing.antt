@@ -38,12 +38,13 @@ is_layer block = false
 is_layer expr = false
 is_layer cond = false
 
--- in a text of the rule, between the tokens before and those behind, stands a whole expression, condition or choice,
--- which is part of no other one
+-- in a text of the rule, between the tokens before and those behind, stands a whole expression,
+-- condition or choice, which is part of no other one
 pub data Holds : Rule TokenKind Name → List Token → List Token → List Token → Type 0 where
   here : {x : Name} {e : List Token} {a : Tree Token}
       → is_whole x ≡ true → Derives language (ref x) e a → Holds (ref x) [] e []
-  within : {x : Name} {b e c : List Token} → is_whole x ≡ false → Holds (rules x) b e c → Holds (ref x) b e c
+  within : {x : Name} {b e c : List Token} → is_whole x ≡ false → Holds (rules x) b e c
+      → Holds (ref x) b e c
   in_first : {r q : Rule TokenKind Name} {b e c v : List Token} {a : Tree Token}
       → Holds r b e c → Derives language q v a → Holds (seq r q) b e (c ++ v)
   in_second : {r q : Rule TokenKind Name} {u b e c : List Token} {a : Tree Token}
@@ -59,8 +60,10 @@ abbrev pub operators_in : List Token → ℕ
 operators_in [] = 0
 operators_in (t ∷ ts) = (if has is operators t.kind then 1 else 0) + operators_in ts
 
--- the token stands in a whole expression, condition or choice of a text of the rule, which begins before the tokens of `front`
-pub record Stands (r : Rule TokenKind Name) (u : List Token) (t : Token) (more : List Token) : Type 0 where
+-- the token stands in a whole expression, condition or choice of a text of the rule, which begins
+-- before the tokens of `front`
+pub record Stands (r : Rule TokenKind Name) (u : List Token) (t : Token)
+    (more : List Token) : Type 0 where
   pub before : List Token
   pub front : List Token
   pub rest : List Token
@@ -75,7 +78,8 @@ pub record HasManyOpen (ts : List Token) : Type 0 where
   pub nests : Nests [] ts open_ones
   pub many : 64 < length open_ones
 
--- the token is an operator, and with it more than 64 stand in its expression, condition or choice so far
+-- the token is an operator, and with it more than 64 stand in its expression, condition or choice
+-- so far
 pub record HasManyOperators (x : Name) (u : List Token) (t : Token) : Type 0 where
   pub more : List Token
   pub operates : has is operators t.kind ≡ true
@@ -83,14 +87,18 @@ pub record HasManyOperators (x : Name) (u : List Token) (t : Token) : Type 0 whe
   pub many : 64 < operators_in (stands.front ++ t ∷ [])
 
 pub record CountsOperators : Type 0 where
-  -- as far as a text has come in a whole expression, condition or choice, the scan counts the operators since its start
+  -- as far as a text has come in a whole expression, condition or choice, the scan counts the
+  -- operators since its start
   pub inside : (x : Name) (before v w behind : List Token) → is_layer x ≡ false
       → Holds (ref x) before (v ++ w) behind → operators_so_far (before ++ v) ≡ operators_in v
   -- each operator of a text stands in one
   pub each : (x : Name) (u more : List Token) (t : Token) (a : Tree Token) → is_layer x ≡ false
-      → has is operators t.kind ≡ true → Derives language (ref x) (u ++ t ∷ more) a → Stands (ref x) u t more
-  -- what begins a text is too deep first with a token that opens one bracket too many, or is one operator too many
-  pub first : (x : Name) (u : List Token) (t : Token) → is_layer x ≡ false → Viable language x (u ++ t ∷ [])
+      → has is operators t.kind ≡ true → Derives language (ref x) (u ++ t ∷ more) a
+        → Stands (ref x) u t more
+  -- what begins a text is too deep first with a token that opens one bracket too many, or is one
+  -- operator too many
+  pub first : (x : Name) (u : List Token) (t : Token) → is_layer x ≡ false
+      → Viable language x (u ++ t ∷ [])
       → (IsDeep u → ⊥) → IsDeep (u ++ t ∷ []) → HasManyOpen (u ++ t ∷ []) ⊎ HasManyOperators x u t
   -- and with each such token it is too deep
   pub deep : (x : Name) (u : List Token) (t : Token) → is_layer x ≡ false

@@ -92,7 +92,8 @@ fn operators_with(count: usize, token: Token) -> usize
     }
 }
 
-/// The number of the first token, from 0, with which more than 64 brackets are open or more than 64 operators stand in one expression or condition.
+/// The number of the first token, from 0, with which more than 64 brackets are open or more than 64
+/// operators stand in one expression or condition.
 pub fn first_deep(tokens: &[Token]) -> Option<usize>
     ensures { MatchOption result
         (Shallow IsDeep tokens.now (length tokens.now))

@@ -16,8 +16,8 @@ pub fn language_looks_ahead()
     ensures { LooksAhead language_reader }
 {}
 
-/// The reader of the whole language reads right: it answers once, what it reads is a text, a text is read whole, and where it stops is the first
-/// token with which no text goes on.
+/// The reader of the whole language reads right: it answers once, what it reads is a text, a text
+/// is read whole, and where it stops is the first token with which no text goes on.
 pub fn language_reads_right()
     ensures { ReadsRight language_reader }
 {}
@@ -29,22 +29,24 @@ pub fn one_language_tree(tokens: &[Token])
     let _ = tokens;
 }
 
-/// For each name of the grammar of the language the tokens have one verdict: their tree, or what is wrong first.
+/// For each name of the grammar of the language the tokens have one verdict: their tree, or what is
+/// wrong first.
 pub fn one_language_verdict(tokens: &[Token])
     ensures { HasOneVerdict language IsDeep tokens.now }
 {
     let _ = tokens;
 }
 
-/// In what begins a text of a name each closing bracket closes the last one that is open, and the scan counts those
-/// that stay open.
+/// In what begins a text of a name each closing bracket closes the last one that is open, and the
+/// scan counts those that stay open.
 pub fn the_scan_counts_open_brackets()
     ensures { CountsOpen }
 {}
 
-/// In an expression, a condition or a choice of a text the scan counts the operators since its start, and each
-/// operator stands in one. So what begins a text is too deep first with a token that opens a 65th bracket, or that
-/// is the 65th operator of its expression, condition or choice, and with each such token it is too deep.
+/// In an expression, a condition or a choice of a text the scan counts the operators since its
+/// start, and each operator stands in one. So what begins a text is too deep first with a token
+/// that opens a 65th bracket, or that is the 65th operator of its expression, condition or choice,
+/// and with each such token it is too deep.
 pub fn the_scan_counts_operators()
     ensures { CountsOperators }
 {}

@@ -14,8 +14,11 @@ PiecesByParts = (L : Stmt-F Stmt) → piece (roll-Stmt L) ≡ piece_in L
 
 -- the walks from 0 to the exit are the finished runs
 abbrev pub RunsAreWalks : Type 0
-RunsAreWalks = (A : List Stmt) (s : State) (c : ℤ) (t : State) → Walks (arrows_of A) 0 s c (exit_of A) t ↔ Run A s c t
+RunsAreWalks =
+    (A : List Stmt) (s : State) (c : ℤ) (t : State) → Walks (arrows_of A) 0 s c (exit_of A) t
+    ↔ Run A s c t
 
 -- edges leave statements, and go to statements or to the exit
 abbrev pub EndsInside : Type 0
-EndsInside = (A : List Stmt) (e : Arrow) → Among e (arrows_of A) → (e.from < exit_of A) × (e.to ≤ exit_of A)
+EndsInside =
+    (A : List Stmt) (e : Arrow) → Among e (arrows_of A) → (e.from < exit_of A) × (e.to ≤ exit_of A)

@@ -1,12 +1,14 @@
--- The graph of a list of statements. Statements are numbered in preorder from 0; a number stands before its statement, and the exit is
--- the number of statements. Edges stand in the order of the statements that they leave.
+-- The graph of a list of statements. Statements are numbered in preorder from 0; a number stands
+-- before its statement, and the exit is the number of statements. Edges stand in the order of the
+-- statements that they leave.
 use Rattle.std.specs.Prelude.{ℕ, ◌+◌, List, [], ◌∷◌, ◌++◌, map, true, false}
 use Rattle.dc_syntax.specs.declared.tree.Stmt.{Stmt, Stmt-F, fold-Stmt, map-Stmt}
 use Rattle.dc_syntax.specs.declared.tree.Stmt.TheOpen.{Skip, Assign, AnyOf, Between, Tick, Assume, If, IfAny, While, WhileAny}
 use Rattle.dc_affine.specs.Table.{facts_of}
 use Rattle.dc_graph.specs.Labels.{Arrow, arrow, branch, idle, sets, picks, picks_in, pays}
 
--- a statement: how many numbers it takes, and its edges where it stands at a number and the program goes on at another
+-- a statement: how many numbers it takes, and its edges where it stands at a number and the program
+-- goes on at another
 pub record Piece : Type 0 where
   pub size : ℕ
   pub place : ℕ → ℕ → List Arrow
@@ -20,7 +22,8 @@ abbrev pub first : List Piece → ℕ → ℕ → ℕ
 first [] k l = l
 first (p ∷ ps) k l = k
 
--- the edges of a block that stands at k and goes on at l: each statement goes on at the next one, the last at l
+-- the edges of a block that stands at k and goes on at l: each statement goes on at the next one,
+-- the last at l
 abbrev pub placed : List Piece → ℕ → ℕ → List Arrow
 placed [] k l = []
 placed (p ∷ ps) k l = p.place k (first ps (k + p.size) l) ++ placed ps (k + p.size) l
@@ -35,15 +38,22 @@ layer (Tick e) = record { size = 1; place = λ k l. arrow k l (pays e) ∷ [] }
 layer (Assume c) = record { size = 1; place = λ k l. branch k l (facts_of c false) }
 layer (If c A B) = record {
   size = 1 + (sizes A + sizes B);
-  place = λ k l. (branch k (first A (k + 1) l) (facts_of c false) ++ branch k (first B (k + 1 + sizes A) l) (facts_of c true)) ++ (placed A (k + 1) l ++ placed B (k + 1 + sizes A) l);
+  place =
+      λ k l. (branch k (first A (k + 1) l) (facts_of c false)
+      ++ branch k (first B (k + 1 + sizes A) l) (facts_of c true))
+      ++ (placed A (k + 1) l ++ placed B (k + 1 + sizes A) l);
 }
 layer (IfAny A B) = record {
   size = 1 + (sizes A + sizes B);
-  place = λ k l. (arrow k (first A (k + 1) l) idle ∷ arrow k (first B (k + 1 + sizes A) l) idle ∷ []) ++ (placed A (k + 1) l ++ placed B (k + 1 + sizes A) l);
+  place =
+      λ k l. (arrow k (first A (k + 1) l) idle ∷ arrow k (first B (k + 1 + sizes A) l) idle ∷ [])
+      ++ (placed A (k + 1) l ++ placed B (k + 1 + sizes A) l);
 }
 layer (While c A) = record {
   size = 1 + sizes A;
-  place = λ k l. (branch k (first A (k + 1) k) (facts_of c false) ++ branch k l (facts_of c true)) ++ placed A (k + 1) k;
+  place =
+      λ k l. (branch k (first A (k + 1) k) (facts_of c false) ++ branch k l (facts_of c true))
+      ++ placed A (k + 1) k;
 }
 layer (WhileAny A) = record {
   size = 1 + sizes A;

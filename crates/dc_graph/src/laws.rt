@@ -6,8 +6,8 @@ pub fn pieces_go_by_the_tree()
     ensures { PiecesByParts }
 {}
 
-/// From each state, the walks from number 0 to the exit are exactly the finished runs of the body, at the same costs and to the same
-/// states.
+/// From each state, the walks from number 0 to the exit are exactly the finished runs of the body,
+/// at the same costs and to the same states.
 pub fn walks_are_runs()
     ensures { RunsAreWalks }
 {}

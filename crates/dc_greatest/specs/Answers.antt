@@ -20,12 +20,15 @@ IsThrough budget Asks = (asked : List Asked) × Asks asked × AllDone budget ask
 
 -- a refusal: want of memory is free, each other is the first of that part
 abbrev pub IsFault : ℕ → (List Asked → Type 0) → InvFault → Type 0
-IsFault budget Asks (Past128 place k) = (asked : List Asked) × Asks asked × Refuses budget asked place (Past k)
-IsFault budget Asks (Budget place) = (asked : List Asked) × Asks asked × Refuses budget asked place (Out budget)
+IsFault budget Asks (Past128 place k) =
+    (asked : List Asked) × Asks asked × Refuses budget asked place (Past k)
+IsFault budget Asks (Budget place) =
+    (asked : List Asked) × Asks asked × Refuses budget asked place (Out budget)
 IsFault budget Asks NoMemory = Unit {0}
 
 -- the greatest family, where the problems of all rounds come to their end
-pub record TellsGreatest (side : Side) (s : System) (cases : List (List Atom)) (live : List Bool) (c : Candidates) (budget : ℕ) (fs : List LocFamily) : Type 0 where
+pub record TellsGreatest (side : Side) (s : System) (cases : List (List Atom)) (live : List Bool)
+    (c : Candidates) (budget : ℕ) (fs : List LocFamily) : Type 0 where
   pub shape : IsShaped s.locs c fs
   pub greatest : IsGreatest (graph_of s) cases c (stands_for s.vars c fs)
   pub through : IsThrough budget (RoundsAsk side (graph_of s) cases live c)

@@ -48,14 +48,19 @@ later (Some i) (Some k) = Some (if ltb i k then k else i)
 
 -- a row with its bounds from a number on
 abbrev pub lowered : ℕ → Option ℕ → LocFamily → LocFamily
-lowered r o f = record { dead = f.dead; least = slice_set f.least r (later (slice_index_or f.least r None) o) }
+lowered r o f = record {
+  dead = f.dead;
+  least = slice_set f.least r (later (slice_index_or f.least r None) o);
+}
 
 -- what a way leaves of a row, where it leaves the others alone
-pub record IsRowLowered (Gives : Atom → Type 0) (c : Candidates) (r : ℕ) (old new : LocFamily) : Type 0 where
+pub record IsRowLowered (Gives : Atom → Type 0) (c : Candidates) (r : ℕ)
+    (old new : LocFamily) : Type 0 where
   pub fit : IsFit c new
   pub dead : new.dead ≡ old.dead
   pub row : (m : ℕ) → m < length c.bounds
-      → IsFrom (slice_index_or new.least r None) m ↔ (IsFrom (slice_index_or old.least r None) m × Gives (bounded (row_at c r) (bound_at c m)))
+      → IsFrom (slice_index_or new.least r None) m
+        ↔ (IsFrom (slice_index_or old.least r None) m × Gives (bounded (row_at c r) (bound_at c m)))
   pub others : (i : ℕ) → (i ≡ r → ⊥) → slice_index_or new.least i None ≡ slice_index_or old.least i None
 
 -- ---- all rows
@@ -65,11 +70,13 @@ pub record IsTaken (Gives : Atom → Type 0) (n : ℕ) (c : Candidates) (old new
   pub is : (a : Atom) → Among a (atoms_in n c new) ↔ (Among a (atoms_in n c old) × Gives a)
 
 -- and of its first n rows
-pub record IsLowered (Gives : Atom → Type 0) (n : ℕ) (c : Candidates) (old new : LocFamily) : Type 0 where
+pub record IsLowered (Gives : Atom → Type 0) (n : ℕ) (c : Candidates)
+    (old new : LocFamily) : Type 0 where
   pub fit : IsFit c new
   pub dead : new.dead ≡ old.dead
   pub rows : (r m : ℕ) → r < n → m < length c.bounds
-      → IsFrom (slice_index_or new.least r None) m ↔ (IsFrom (slice_index_or old.least r None) m × Gives (bounded (row_at c r) (bound_at c m)))
+      → IsFrom (slice_index_or new.least r None) m
+        ↔ (IsFrom (slice_index_or old.least r None) m × Gives (bounded (row_at c r) (bound_at c m)))
   pub others : (r : ℕ) → n ≤ r → slice_index_or new.least r None ≡ slice_index_or old.least r None
 
 -- a row that the one does not have, the other does not have

@@ -55,7 +55,8 @@ IsBelow n (Some k) = k < n
 pub record IsShaped (locs : ℕ) (c : Candidates) (fs : List LocFamily) : Type 0 where
   pub one_each : length fs ≡ locs
   pub rows : (l : ℕ) (d : LocFamily) → l < locs → length (slice_index_or fs l d).least ≡ length c.rows
-  pub bounds : (l r : ℕ) (d : LocFamily) → l < locs → r < length c.rows → IsBelow (length c.bounds) (slice_index_or (slice_index_or fs l d).least r None)
+  pub bounds : (l r : ℕ) (d : LocFamily) → l < locs → r < length c.rows
+      → IsBelow (length c.bounds) (slice_index_or (slice_index_or fs l d).least r None)
 
 -- one location's: one entry for each row, and in range
 pub record IsFit (c : Candidates) (f : LocFamily) : Type 0 where

@@ -47,49 +47,65 @@ abbrev pub EdgesAsk : Lent → Family → List Asked → Type 0
 EdgesAsk t J asked = parts.EdgesAsk t.side (graph t) t.cases.now t.live.now t.candidates.now J asked
 
 abbrev pub EdgeAsks : Lent → Family → ℕ → Edge → List Asked → Type 0
-EdgeAsks t J k e asked = parts.EdgeAsks t.side (graph t) t.cases.now t.live.now t.candidates.now J k e asked
+EdgeAsks t J k e asked =
+    parts.EdgeAsks t.side (graph t) t.cases.now t.live.now t.candidates.now J k e asked
 
 abbrev pub RoundAsks : Lent → Family → List Asked → Type 0
 RoundAsks t J asked = parts.RoundAsks t.side (graph t) t.cases.now t.live.now t.candidates.now J asked
 
 abbrev pub AreSettled : Lent → Family → List ℕ → Type 0
-AreSettled t J numbers = parts.AreSettled t.side (graph t) t.cases.now t.live.now t.candidates.now J t.budget numbers
+AreSettled t J numbers =
+    parts.AreSettled t.side (graph t) t.cases.now t.live.now t.candidates.now J t.budget numbers
 
 abbrev pub IsSettledEntry : Lent → Family → Type 0
-IsSettledEntry t J = parts.IsSettledEntry t.side (graph t) t.cases.now t.live.now t.candidates.now J t.budget
+IsSettledEntry t J =
+    parts.IsSettledEntry t.side (graph t) t.cases.now t.live.now t.candidates.now J t.budget
 
 abbrev pub IsRoundTo : Lent → Family → List LocFamily → Type 0
-IsRoundTo t J fs = parts.IsRoundTo t.side (graph t) t.cases.now t.live.now t.candidates.now J t.budget fs
+IsRoundTo t J fs =
+    parts.IsRoundTo t.side (graph t) t.cases.now t.live.now t.candidates.now J t.budget fs
 
 abbrev pub AreEntriesTaken : Lent → Family → List LocFamily → Type 0
-AreEntriesTaken t J fs = parts.AreEntriesTaken t.side (graph t) t.cases.now t.live.now t.candidates.now J t.budget fs
+AreEntriesTaken t J fs =
+    parts.AreEntriesTaken t.side (graph t) t.cases.now t.live.now t.candidates.now J t.budget fs
 
 abbrev pub AreCasesTaken : Lent → Family → ℕ → List LocFamily → Type 0
-AreCasesTaken t J k fs = parts.AreCasesTaken t.side (graph t) t.cases.now t.live.now t.candidates.now J t.budget k fs
+AreCasesTaken t J k fs =
+    parts.AreCasesTaken t.side (graph t) t.cases.now t.live.now t.candidates.now J t.budget k fs
 
 abbrev pub AreEdgesTaken : Lent → Family → List LocFamily → Type 0
-AreEdgesTaken t J fs = parts.AreEdgesTaken t.side (graph t) t.cases.now t.live.now t.candidates.now J t.budget fs
+AreEdgesTaken t J fs =
+    parts.AreEdgesTaken t.side (graph t) t.cases.now t.live.now t.candidates.now J t.budget fs
 
 abbrev pub AreFirstTaken : Lent → Family → ℕ → List LocFamily → Type 0
-AreFirstTaken t J k fs = parts.AreFirstTaken t.side (graph t) t.cases.now t.live.now t.candidates.now J t.budget k fs
+AreFirstTaken t J k fs =
+    parts.AreFirstTaken t.side (graph t) t.cases.now t.live.now t.candidates.now J t.budget k fs
 
 abbrev pub IsEdgeTaken : Lent → Family → ℕ → Edge → LocFamily → LocFamily → Type 0
-IsEdgeTaken t J k e old new = parts.IsEdgeTaken t.side (graph t) t.cases.now t.live.now t.candidates.now J t.budget k e old new
+IsEdgeTaken t J k e old new =
+    parts.IsEdgeTaken t.side
+    (graph t) t.cases.now t.live.now t.candidates.now J t.budget k e old new
 
 abbrev pub edge_row_asked : Lent → Family → ℕ → Edge → ℕ → List Asked
-edge_row_asked t J k e r = parts.edge_row_asked t.side (graph t) t.cases.now t.live.now t.candidates.now J k e r
+edge_row_asked t J k e r =
+    parts.edge_row_asked t.side (graph t) t.cases.now t.live.now t.candidates.now J k e r
 
 abbrev pub entry_row_asked : Lent → Family → ℕ → List Atom → ℕ → List Asked
-entry_row_asked t J k case r = parts.entry_row_asked t.side (graph t) t.cases.now t.live.now t.candidates.now J k case r
+entry_row_asked t J k case r =
+    parts.entry_row_asked t.side (graph t) t.cases.now t.live.now t.candidates.now J k case r
 
 -- ---- one edge
 -- its atoms, the guard at its places
 abbrev pub atoms_of : Lent → Family → Edge → List Atom
-atoms_of t J e = with_guard (edge_places t.system.now.vars e) (atoms_at t.system.now.vars t.candidates.now J e.from) e
+atoms_of t J e =
+    with_guard (edge_places t.system.now.vars e)
+    (atoms_at t.system.now.vars t.candidates.now J e.from) e
 
 -- the problem of a row after it
 abbrev pub row_problem : Lent → Family → Edge → ℕ → Linear ℤ
-row_problem t J e r = sup_problem (edge_atoms (graph t) t.candidates.now J e) (form_after t.system.now.vars e (row_at t.candidates.now r))
+row_problem t J e r =
+    sup_problem (edge_atoms (graph t) t.candidates.now J e)
+    (form_after t.system.now.vars e (row_at t.candidates.now r))
 
 -- is asked where the row is affine after the edge
 abbrev pub IsAsked : Lent → Edge → ℕ → Type 0
@@ -99,10 +115,13 @@ abbrev pub HasRowEnd : Lent → Family → Edge → ℕ → Type 0
 HasRowEnd t J e r = IsAsked t e r → HasEnd t.budget (row_problem t J e r)
 
 abbrev pub IsRowFault : Lent → Family → Edge → ℕ → SolveFault → Type 0
-IsRowFault t J e r f = (IsAsked t e r × IsSolveFault (rational (row_problem t J e r)) t.budget f) ⊎ (f ≡ NoMemory)
+IsRowFault t J e r f =
+    (IsAsked t e r × IsSolveFault (rational (row_problem t J e r)) t.budget f) ⊎ (f ≡ NoMemory)
 
 abbrev pub edge_rows_asked : Lent → Family → ℕ → Edge → List Asked
-edge_rows_asked t J k e = map (edge_row t.side (graph t) t.candidates.now J k e) (affine_rows (graph t) t.candidates.now J e)
+edge_rows_asked t J k e =
+    map (edge_row t.side (graph t) t.candidates.now J k e)
+    (affine_rows (graph t) t.candidates.now J e)
 
 -- ---- one case of the condition
 abbrev pub case_at : Lent → ℕ → List Atom

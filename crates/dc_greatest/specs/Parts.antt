@@ -17,7 +17,8 @@ use Rattle.dc_families.specs.Rounds.{IsRound, IsWithin}
 
 -- ---- numbered lists
 -- f for each live case with its number, from k on
-abbrev pub for_live : {A : Type 0} → (ℕ → List Atom → List A) → ℕ → List (List Atom) → List Bool → List A
+abbrev pub for_live : {A : Type 0} → (ℕ → List Atom → List A) → ℕ → List (List Atom) → List Bool
+    → List A
 for_live f k [] live = []
 for_live f k (case ∷ cases) [] = []
 for_live f k (case ∷ cases) (b ∷ live) = (if b then f k case else []) ++ for_live f (suc k) cases live
@@ -51,7 +52,9 @@ module _ (side : Side) (s : Graph) (c : Candidates) (J : Family) where
 
   -- ---- along an edge: whether it is dead, and where it is live those rows
   abbrev pub edge_row : ℕ → Edge → ℕ → Asked
-  edge_row k e r = ask (place.EdgeRow side k r) (sup_problem (edge_atoms s c J e) (form_after s.vars e (row_at c r)))
+  edge_row k e r =
+      ask (place.EdgeRow side k r)
+      (sup_problem (edge_atoms s c J e) (form_after s.vars e (row_at c r)))
 
   abbrev pub edge_empty : ℕ → Edge → Asked
   edge_empty k e = ask (place.Edge side k) (empty_problem (edge_atoms s c J e) (edge_places s.vars e))
@@ -59,17 +62,21 @@ module _ (side : Side) (s : Graph) (c : Candidates) (J : Family) where
   -- an edge whose source has false is not asked for
   abbrev pub edge_asked : ℕ → Edge → Bool → List Asked
   edge_asked k e live =
-      if J e.from (never s.vars) then [] else edge_empty k e ∷ (if live then map (edge_row k e) (affine_rows s c J e) else [])
+      if J e.from (never s.vars) then [] else edge_empty k e
+        ∷ (if live then map (edge_row k e) (affine_rows s c J e) else [])
 
   -- ---- a round, where flags tell the live cases and the live edges
   abbrev pub round_asked : List (List Atom) → List Bool → List Bool → List Asked
-  round_asked cases live edges_live = for_live entry_rows 0 cases live ++ for_edges edge_asked 0 s.edges edges_live
+  round_asked cases live edges_live =
+      for_live entry_rows 0 cases live ++ for_edges edge_asked 0 s.edges edges_live
 
 module _ (side : Side) (s : Graph) (cases : List (List Atom)) (live : List Bool) (c : Candidates) where
   -- From a family the rounds ask these problems, up to one that changes nothing, and leave this family.
   pub data Rounds : Family → List Asked → Family → Type 0 where
-    last : {J : Family} (flags : List Bool) → AreLive s c J flags → IsRound s cases J J → Rounds J (round_asked side s c J cases live flags) J
-    next : {J K L : Family} {asked : List Asked} (flags : List Bool) → AreLive s c J flags → IsRound s cases J K → ¬ IsWithin J K
+    last : {J : Family} (flags : List Bool) → AreLive s c J flags → IsRound s cases J J
+        → Rounds J (round_asked side s c J cases live flags) J
+    next : {J K L : Family} {asked : List Asked} (flags : List Bool) → AreLive s c J flags
+        → IsRound s cases J K → ¬ IsWithin J K
         → Rounds K asked L → Rounds J (round_asked side s c J cases live flags ++ asked) L
 
   -- from every candidate everywhere

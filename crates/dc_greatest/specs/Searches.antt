@@ -25,16 +25,20 @@ use Rattle.dc_greatest.specs.Answers.{IsThrough}
 abbrev pub first_edges : ℕ → Graph → Graph
 first_edges k s = with_edges (take k s.edges) s
 
-module _ (side : Side) (s : Graph) (cases : List (List Atom)) (live : List Bool) (c : Candidates) (J : Family) where
+module _ (side : Side) (s : Graph) (cases : List (List Atom)) (live : List Bool) (c : Candidates)
+    (J : Family) where
   -- ---- the problems of a round, and of its two parts
   abbrev pub EntryAsks : List Asked → Type 0
   EntryAsks asked = asked ≡ for_live (entry_rows side s c J) 0 cases live
 
   abbrev pub EdgesAsk : List Asked → Type 0
-  EdgesAsk asked = (flags : List Bool) × AreLive s c J flags × (asked ≡ for_edges (edge_asked side s c J) 0 s.edges flags)
+  EdgesAsk asked =
+      (flags : List Bool) × AreLive s c J flags
+      × (asked ≡ for_edges (edge_asked side s c J) 0 s.edges flags)
 
   abbrev pub RoundAsks : List Asked → Type 0
-  RoundAsks asked = (flags : List Bool) × AreLive s c J flags × (asked ≡ round_asked side s c J cases live flags)
+  RoundAsks asked =
+      (flags : List Bool) × AreLive s c J flags × (asked ≡ round_asked side s c J cases live flags)
 
   -- ---- what need not be looked at: it gives what the family has, and its problems have come to their end
   pub record IsSettledEdge (budget k : ℕ) (e : Edge) : Type 0 where
@@ -43,10 +47,13 @@ module _ (side : Side) (s : Graph) (cases : List (List Atom)) (live : List Bool)
 
   -- each edge but those with these numbers
   abbrev pub AreSettled : ℕ → List ℕ → Type 0
-  AreSettled budget numbers = (k : ℕ) (e : Edge) → k < length s.edges → slice_index_or s.edges k e ≡ e → is_listed k numbers ≡ false → IsSettledEdge budget k e
+  AreSettled budget numbers =
+      (k : ℕ) (e : Edge) → k < length s.edges → slice_index_or s.edges k e ≡ e
+      → is_listed k numbers ≡ false → IsSettledEdge budget k e
 
   pub record IsSettledEntry (budget : ℕ) : Type 0 where
-    pub gives : (case : List Atom) (a : Atom) → Among case cases → J 0 a ≡ true → Entails case (at_start s.params a)
+    pub gives : (case : List Atom) (a : Atom) → Among case cases → J 0 a ≡ true
+        → Entails case (at_start s.params a)
     pub done : AllDone budget (for_live (entry_rows side s c J) 0 cases live)
 
   -- ---- what a round leaves
@@ -74,7 +81,8 @@ module _ (side : Side) (s : Graph) (cases : List (List Atom)) (live : List Bool)
 
   -- ---- one edge
   abbrev pub EdgeAsks : ℕ → Edge → List Asked → Type 0
-  EdgeAsks k e asked = (b : Bool) × IsFlag b (edge_atoms s c J e) × (asked ≡ edge_asked side s c J k e b)
+  EdgeAsks k e asked =
+      (b : Bool) × IsFlag b (edge_atoms s c J e) × (asked ≡ edge_asked side s c J k e b)
 
   -- its target keeps what it had and the edge gives
   pub record IsEdgeTaken (budget k : ℕ) (e : Edge) (old new : LocFamily) : Type 0 where
@@ -83,10 +91,13 @@ module _ (side : Side) (s : Graph) (cases : List (List Atom)) (live : List Bool)
 
   -- the problem of a row along a live edge, and by a case, where there is one
   abbrev pub edge_row_asked : ℕ → Edge → ℕ → List Asked
-  edge_row_asked k e r = if is_some (least_in c J e.to r) && is_affine_after e (row_at c r) then edge_row side s c J k e r ∷ [] else []
+  edge_row_asked k e r =
+      if is_some (least_in c J e.to r)
+      && is_affine_after e (row_at c r) then edge_row side s c J k e r ∷ [] else []
 
   abbrev pub entry_row_asked : ℕ → List Atom → ℕ → List Asked
-  entry_row_asked k case r = if is_some (least_in c J 0 r) then entry_row side s c J k case r ∷ [] else []
+  entry_row_asked k case r =
+      if is_some (least_in c J 0 r) then entry_row side s c J k case r ∷ [] else []
 
   -- the first k edges are taken
   pub record AreFirstTaken (budget k : ℕ) (fs : List LocFamily) : Type 0 where
@@ -98,5 +109,7 @@ module _ (side : Side) (s : Graph) (cases : List (List Atom)) (live : List Bool)
 
 -- the numbers of the edges whose source has changed
 abbrev pub HasChanged : Graph → List LocFamily → List LocFamily → List ℕ → Type 0
-HasChanged s old new numbers = (k : ℕ) (e : Edge) (d : LocFamily) → k < length s.edges → slice_index_or s.edges k e ≡ e → is_listed k numbers ≡ false
+HasChanged s old new numbers =
+    (k : ℕ) (e : Edge) (d : LocFamily) → k < length s.edges → slice_index_or s.edges k e ≡ e
+    → is_listed k numbers ≡ false
     → slice_index_or new e.from d ≡ slice_index_or old e.from d

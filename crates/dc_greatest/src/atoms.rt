@@ -19,7 +19,8 @@ fn push_least(
 ) -> Result<(), AllocError>
     requires row { row < length c.now.rows }
     requires least { IsBelow (length c.now.bounds) least }
-    ensures { OnOk result (atoms.new.items ≡ atoms.old.items ++ with_least c.now (row_at c.now row) least) }
+    ensures { OnOk result
+        (atoms.new.items ≡ atoms.old.items ++ with_least c.now (row_at c.now row) least) }
 {
     let Some(k) = least else {
         return Ok(());

@@ -89,7 +89,9 @@ pub(crate) fn least_bound<T: Tableau>(
     requires light { sum_by unsigned_abs form.now < 2 ^ 70 }
     requires constant { unsigned_abs constant.now < 2 ^ 100 }
     requires rising { AreRising c.now }
-    ensures least { IfOk result (IsLeast c.now (λ m. EntailsFrom hyps.now form.now (of_ℤ (bound_at c.now m +ℤ constant.now)))) }
+    ensures least { IfOk result
+        (IsLeast c.now (λ m. EntailsFrom hyps.now form.now
+        (of_ℤ (bound_at c.now m +ℤ constant.now)))) }
     ensures done { IfOk result (λ o. HasEnd budget (sup_problem hyps.now form.now)) }
     ensures fault { IfErr result (IsSolveFault (rational (sup_problem hyps.now form.now)) budget) }
 {

@@ -8,8 +8,8 @@ use sqlite_items::Items;
 use std::alloc::AllocError;
 use thiserror::Error;
 
-/// The atoms of a location: whether `-1 >= 0` is one, and for each row the number of the least bound that is kept. All greater bounds are
-/// kept with it.
+/// The atoms of a location: whether `-1 >= 0` is one, and for each row the number of the least
+/// bound that is kept. All greater bounds are kept with it.
 #[derive(Debug, Drop)]
 pub struct LocFamily {
     pub dead: bool,

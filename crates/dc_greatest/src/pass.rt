@@ -42,7 +42,10 @@ fn edge_least<T: Tableau>(
     requires row { row < length t.now.candidates.now.rows }
     requires hyps { hyps.now ≡ atoms_of t.now (family t.now at.now) edge.now }
     requires live { ¬ IsDead hyps.now }
-    ensures least { IfOk result (IsLeast t.now.candidates.now (λ m. EdgeGives (graph t.now) (family t.now at.now) edge.now (bounded (row_at t.now.candidates.now row) (bound_at t.now.candidates.now m)))) }
+    ensures least { IfOk result
+        (IsLeast t.now.candidates.now
+        (λ m. EdgeGives (graph t.now) (family t.now at.now) edge.now
+        (bounded (row_at t.now.candidates.now row) (bound_at t.now.candidates.now m)))) }
     ensures done { IfOk result (λ o. HasRowEnd t.now (family t.now at.now) edge.now row) }
     ensures fault { IfErr result (IsRowFault t.now (family t.now at.now) edge.now row) }
 {
@@ -86,9 +89,14 @@ fn edge_row<T: Tableau>(
     requires live { ¬ IsDead hyps.now }
     requires fit { IsFit t.now.candidates.now target.old }
     requires before { HasNoMore (slice_index_or at.now edge.now.to target.old) target.old }
-    ensures lowered { OnOk result (IsRowLowered (EdgeGives (graph t.now) (family t.now at.now) edge.now) t.now.candidates.now row target.old target.new) }
-    ensures done { OnOk result (AllDone t.now.budget (edge_row_asked t.now (family t.now at.now) k edge.now row)) }
-    ensures fault { IfErr result (IsFault t.now.budget (λ asked. asked ≡ edge_row_asked t.now (family t.now at.now) k edge.now row)) }
+    ensures lowered { OnOk result
+        (IsRowLowered (EdgeGives (graph t.now)
+        (family t.now at.now) edge.now) t.now.candidates.now row target.old target.new) }
+    ensures done { OnOk result
+        (AllDone t.now.budget (edge_row_asked t.now (family t.now at.now) k edge.now row)) }
+    ensures fault { IfErr result
+        (IsFault t.now.budget
+        (λ asked. asked ≡ edge_row_asked t.now (family t.now at.now) k edge.now row)) }
 {
     if at[edge.to].least.as_slice()[row].is_none() {
         return Ok(());
@@ -127,9 +135,14 @@ fn edge_rows<T: Tableau>(
     requires live { ¬ IsDead hyps.now }
     requires fit { IsFit t.now.candidates.now target.old }
     requires before { HasNoMore (slice_index_or at.now edge.now.to target.old) target.old }
-    ensures lowered { OnOk result (IsLowered (EdgeGives (graph t.now) (family t.now at.now) edge.now) (length t.now.candidates.now.rows) t.now.candidates.now target.old target.new) }
-    ensures done { OnOk result (AllDone t.now.budget (edge_rows_asked t.now (family t.now at.now) k edge.now)) }
-    ensures fault { IfErr result (IsFault t.now.budget (λ asked. asked ≡ edge_rows_asked t.now (family t.now at.now) k edge.now)) }
+    ensures lowered { OnOk result
+        (IsLowered (EdgeGives (graph t.now) (family t.now at.now) edge.now)
+        (length t.now.candidates.now.rows) t.now.candidates.now target.old target.new) }
+    ensures done { OnOk result
+        (AllDone t.now.budget (edge_rows_asked t.now (family t.now at.now) k edge.now)) }
+    ensures fault { IfErr result
+        (IsFault t.now.budget
+        (λ asked. asked ≡ edge_rows_asked t.now (family t.now at.now) k edge.now)) }
 {
     for row in 0..t.candidates.rows.len() {
         match edge_row(alloc, t, at, k, edge, hyps, row, target, tableau) {
@@ -155,8 +168,10 @@ pub(crate) fn pass_edge<T: Tableau>(
     requires edge { Among edge.now t.now.system.now.edges }
     requires fit { IsFit t.now.candidates.now target.old }
     requires before { HasNoMore (slice_index_or at.now edge.now.to target.old) target.old }
-    ensures answer { OnOk result (IsEdgeTaken t.now (family t.now at.now) k edge.now target.old target.new) }
-    ensures fault { IfErr result (IsFault t.now.budget (EdgeAsks t.now (family t.now at.now) k edge.now)) }
+    ensures answer { OnOk result
+        (IsEdgeTaken t.now (family t.now at.now) k edge.now target.old target.new) }
+    ensures fault { IfErr result
+        (IsFault t.now.budget (EdgeAsks t.now (family t.now at.now) k edge.now)) }
 {
     let source = &at[edge.from];
     if source.dead {
@@ -193,9 +208,18 @@ fn case_least<T: Tableau>(
     requires case { Among case.now t.now.cases.now }
     requires live { ¬ IsDead case.now }
     requires row { row < length t.now.candidates.now.rows }
-    ensures least { IfOk result (IsLeast t.now.candidates.now (λ m. Entails case.now (at_start t.now.system.now.params (bounded (row_at t.now.candidates.now row) (bound_at t.now.candidates.now m))))) }
-    ensures done { IfOk result (λ o. HasEnd t.now.budget (sup_problem case.now (take t.now.system.now.params (row_at t.now.candidates.now row)))) }
-    ensures fault { IfErr result (IsSolveFault (rational (sup_problem case.now (take t.now.system.now.params (row_at t.now.candidates.now row)))) t.now.budget) }
+    ensures least { IfOk result
+        (IsLeast t.now.candidates.now
+        (λ m. Entails case.now
+        (at_start t.now.system.now.params
+        (bounded (row_at t.now.candidates.now row) (bound_at t.now.candidates.now m))))) }
+    ensures done { IfOk result
+        (λ o. HasEnd t.now.budget
+        (sup_problem case.now (take t.now.system.now.params (row_at t.now.candidates.now row)))) }
+    ensures fault { IfErr result
+        (IsSolveFault (rational
+        (sup_problem case.now
+        (take t.now.system.now.params (row_at t.now.candidates.now row)))) t.now.budget) }
 {
     let form = &t.candidates.rows.as_slice()[row];
     let Ok(form) = first_numbers(alloc, form.as_slice(), t.system.params) else {
@@ -221,9 +245,15 @@ fn case_row<T: Tableau>(
     requires row { row < length t.now.candidates.now.rows }
     requires fit { IsFit t.now.candidates.now target.old }
     requires before { HasNoMore (slice_index_or at.now 0 target.old) target.old }
-    ensures lowered { OnOk result (IsRowLowered (λ a. Entails (case_at t.now k) (at_start t.now.system.now.params a)) t.now.candidates.now row target.old target.new) }
-    ensures done { OnOk result (AllDone t.now.budget (entry_row_asked t.now (family t.now at.now) k (case_at t.now k) row)) }
-    ensures fault { IfErr result (IsFault t.now.budget (λ asked. asked ≡ entry_row_asked t.now (family t.now at.now) k (case_at t.now k) row)) }
+    ensures lowered { OnOk result
+        (IsRowLowered (λ a. Entails (case_at t.now k)
+        (at_start t.now.system.now.params a)) t.now.candidates.now row target.old target.new) }
+    ensures done { OnOk result
+        (AllDone t.now.budget
+        (entry_row_asked t.now (family t.now at.now) k (case_at t.now k) row)) }
+    ensures fault { IfErr result
+        (IsFault t.now.budget
+        (λ asked. asked ≡ entry_row_asked t.now (family t.now at.now) k (case_at t.now k) row)) }
 {
     if at[0].least.as_slice()[row].is_none() {
         return Ok(());
@@ -259,9 +289,12 @@ fn case_rows<T: Tableau>(
     requires live { ¬ IsDead (case_at t.now k) }
     requires fit { IsFit t.now.candidates.now target.old }
     requires before { HasNoMore (slice_index_or at.now 0 target.old) target.old }
-    ensures lowered { OnOk result (IsLowered (λ a. Entails (case_at t.now k) (at_start t.now.system.now.params a)) (length t.now.candidates.now.rows) t.now.candidates.now target.old target.new) }
+    ensures lowered { OnOk result
+        (IsLowered (λ a. Entails (case_at t.now k) (at_start t.now.system.now.params a))
+        (length t.now.candidates.now.rows) t.now.candidates.now target.old target.new) }
     ensures done { OnOk result (AllDone t.now.budget (entry_rows_asked t.now (family t.now at.now) k)) }
-    ensures fault { IfErr result (IsFault t.now.budget (λ asked. asked ≡ entry_rows_asked t.now (family t.now at.now) k)) }
+    ensures fault { IfErr result
+        (IsFault t.now.budget (λ asked. asked ≡ entry_rows_asked t.now (family t.now at.now) k)) }
 {
     for row in 0..t.candidates.rows.len() {
         match case_row(alloc, t, at, k, row, target, tableau) {
@@ -288,7 +321,8 @@ pub(crate) fn pass_case<T: Tableau>(
     requires before { HasNoMore (slice_index_or at.now 0 target.old) target.old }
     ensures taken { OnOk result (IsTaken (λ a. Entails (case_at t.now k) (at_start t.now.system.now.params a)) t.now.system.now.vars t.now.candidates.now target.old target.new) }
     ensures done { OnOk result (AllDone t.now.budget (case_asked t.now (family t.now at.now) k)) }
-    ensures fault { IfErr result (IsFault t.now.budget (λ asked. asked ≡ case_asked t.now (family t.now at.now) k)) }
+    ensures fault { IfErr result
+        (IsFault t.now.budget (λ asked. asked ≡ case_asked t.now (family t.now at.now) k)) }
 {
     if !t.live[k] {
         return Ok(());

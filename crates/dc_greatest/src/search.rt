@@ -100,7 +100,8 @@ fn pass_edges<T: Tableau>(
     Ok(())
 }
 
-/// What a round begins with: the family, and the cases of the condition taken into it where they have not been looked at.
+/// What a round begins with: the family, and the cases of the condition taken into it where they
+/// have not been looked at.
 fn begin<T: Tableau>(
     alloc: Global,
     t: &Lent,
@@ -155,7 +156,10 @@ fn round<T: Tableau>(
 fn rounds<T: Tableau>(alloc: Global, t: &Lent, tableau: &mut T) -> Result<Vec<LocFamily>, InvFault>
     requires lent { IsLent t.now }
     ensures answer { IfOk result (λ v. TellsGreatest t.now.side t.now.system.now t.now.cases.now t.now.live.now t.now.candidates.now t.now.budget v.items) }
-    ensures fault { IfErr result (IsFault t.now.budget (RoundsAsk t.now.side (graph_of t.now.system.now) t.now.cases.now t.now.live.now t.now.candidates.now)) }
+    ensures fault { IfErr result
+        (IsFault t.now.budget
+        (RoundsAsk t.now.side
+        (graph_of t.now.system.now) t.now.cases.now t.now.live.now t.now.candidates.now)) }
 {
     let mut at = everything(alloc, t.system.locs, t.candidates)?;
     let mut work = all_edges(alloc, t.system.edges.len())?;
@@ -174,16 +178,18 @@ fn rounds<T: Tableau>(alloc: Global, t: &Lent, tableau: &mut T) -> Result<Vec<Lo
     }
 }
 
-/// The greatest inductive family of the candidates' atoms: the strongest that holds at each location whenever a run from an allowed input
-/// comes there and that one step after another shows.
+/// The greatest inductive family of the candidates' atoms: the strongest that holds at each
+/// location whenever a run from an allowed input comes there and that one step after another shows.
 ///
-/// The cases are the condition's, with a flag for each that says whether it is live. Rounds begin with every candidate at every location
-/// and drop what an edge or a case does not give, until one drops nothing. An edge is looked at again only where its source has changed.
-/// Each problem is solved by at most `budget` pivots on a tableau that is lent as working space.
+/// The cases are the condition's, with a flag for each that says whether it is live. Rounds begin
+/// with every candidate at every location and drop what an edge or a case does not give, until one
+/// drops nothing. An edge is looked at again only where its source has changed. Each problem is
+/// solved by at most `budget` pivots on a tableau that is lent as working space.
 ///
 /// # Errors
-/// `Past128` and `Budget` exactly where the first problem of the rounds that is refused is refused so, with its place; what is not solved
-/// again equals a problem that came to its end. The tableau is left in no state that is told.
+/// `Past128` and `Budget` exactly where the first problem of the rounds that is refused is refused
+/// so, with its place; what is not solved again equals a problem that came to its end. The tableau
+/// is left in no state that is told.
 pub fn greatest<T: Tableau>(
     alloc: Global,
     side: Side,
@@ -199,7 +205,8 @@ pub fn greatest<T: Tableau>(
     requires flags { AreFlags live.now cases.now }
     requires kind { AreCandidates s.now.vars c.now }
     ensures answer { IfOk result (λ f. TellsGreatest side s.now cases.now live.now c.now budget f.at) }
-    ensures fault { IfErr result (IsFault budget (RoundsAsk side (graph_of s.now) cases.now live.now c.now)) }
+    ensures fault { IfErr result
+        (IsFault budget (RoundsAsk side (graph_of s.now) cases.now live.now c.now)) }
 {
     let lent = Lent {
         side,

@@ -14,14 +14,16 @@ use Rattle.dc_families.specs.Families.{family_of}
 use Rattle.dc_families.specs.Rounds.{IsInductive}
 
 -- a system, the cases of a condition with their flags, and candidates
-pub record AreLent (s : System) (cases : List (List Atom)) (live : List Bool) (c : Candidates) : Type 0 where
+pub record AreLent (s : System) (cases : List (List Atom)) (live : List Bool)
+    (c : Candidates) : Type 0 where
   pub system : IsWellFormed s
   pub condition : IsCondition s.params cases
   pub flags : AreFlags live cases
   pub kind : AreCandidates s.vars c
 
 -- printed atoms of a system
-pub record CanBeShown (s : System) (cases : List (List Atom)) (printed : List (List Atom)) : Type 0 where
+pub record CanBeShown (s : System) (cases : List (List Atom))
+    (printed : List (List Atom)) : Type 0 where
   pub one_each : length printed ≡ s.locs
   pub atoms : AllByRecursion (AllAtoms (IsFullAtom s.vars)) printed
   pub inductive : IsInductive (graph_of s) cases (family_of printed)

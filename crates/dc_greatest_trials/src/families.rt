@@ -6,8 +6,9 @@ use dc_sparse::Cross;
 use sqlite_items::Items;
 use std::test::Fail;
 
-// A source, a condition and whether sums and differences of two variables are rows; the printed atoms of each location, each by its constant
-// and its coefficients; and which edges are live, and whether the exit is.
+// A source, a condition and whether sums and differences of two variables are rows; the printed
+// atoms of each location, each by its constant and its coefficients; and which edges are live, and
+// whether the exit is.
 type Row = (
     &'static str,
     &'static str,

@@ -9,12 +9,13 @@ use std::test::Fail;
 
 const TWICE: &str = "proc f(n) { var i; while (i < n) { tick 2; i = i + 1; } }";
 
-// The values of the problems of the first edge pass 128 bits: its three equations have determinants of some 93 bits, and sums of products
-// of these.
+// The values of the problems of the first edge pass 128 bits: its three equations have determinants
+// of some 93 bits, and sums of products of these.
 const WIDE: &str =
     "proc f(a, b, c) { assume (1103527590*a + 377401575*b + 662824084*c == 0 && 1147902781*a + 2035015474*b + 368800899*c == 0 && 1508029952*a + 486256185*b + 1062517886*c == 0); }";
 
-// The condition's and the entry's problems take one pivot each; the first edge's emptiness wants a second.
+// The condition's and the entry's problems take one pivot each; the first edge's emptiness wants a
+// second.
 #[test]
 fn pivots_are_spent(rt: HostRuntime) -> Result<(), Fail> {
     let alloc = rt.alloc();
@@ -33,7 +34,8 @@ fn pivots_are_spent(rt: HostRuntime) -> Result<(), Fail> {
     Ok(())
 }
 
-// Pivot 4 of the first edge's emptiness is the first that doesn't fit; with three pivots it is not looked at.
+// Pivot 4 of the first edge's emptiness is the first that doesn't fit; with three pivots it is not
+// looked at.
 #[test]
 fn pivots_pass_128_bits(rt: HostRuntime) -> Result<(), Fail> {
     let alloc = rt.alloc();

@@ -76,7 +76,8 @@ StayAboveZero = (n : ℕ) (hyps : List Atom) (c : Choice) (xs : List ℤ) → Al
 
 -- each product is at least 0 where all the atoms hold
 abbrev pub HoldTogether : Type 0
-HoldTogether = (n k : ℕ) (hyps : List Atom) (xs : List ℤ) → AllAtoms (IsAtom n) hyps → all_hold hyps xs ≡ true
+HoldTogether =
+    (n k : ℕ) (hyps : List Atom) (xs : List ℤ) → AllAtoms (IsAtom n) hyps → all_hold hyps xs ≡ true
     → All (λ (p : Polynomial). pos 0 ≤ℤ value p.terms xs) (products_of n hyps k)
 
 -- ---- the order of the factors

@@ -9,8 +9,9 @@ use dc_affine::Atom;
 use dc_poly::Poly;
 use std::alloc::{AllocError, Global};
 
-/// All products of at most k of the atoms' left sides over so many places, repeats allowed: fewer factors
-/// first, then by the factors' numbers, which rise in each product. The empty product 1 is the first.
+/// All products of at most k of the atoms' left sides over so many places, repeats allowed: fewer
+/// factors first, then by the factors' numbers, which rise in each product. The empty product 1 is
+/// the first.
 ///
 /// Each is a polynomial of so many places, of degree at most k.
 pub fn products(alloc: Global, hyps: &[Atom], places: usize, k: u8) -> Result<Vec<Poly>, AllocError>

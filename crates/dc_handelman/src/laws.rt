@@ -17,8 +17,9 @@ pub fn products_have_values()
     ensures together { HoldTogether }
 {}
 
-/// A product does not depend on the order of its factors. At most k numbers in any order are a choice of
-/// the list in another order, so the product of at most k of the atoms stands among the products.
+/// A product does not depend on the order of its factors. At most k numbers in any order are a
+/// choice of the list in another order, so the product of at most k of the atoms stands among the
+/// products.
 pub fn the_order_is_free()
     ensures order { OrderIsFree }
     ensures sorted { EachIsSorted }

@@ -2,7 +2,8 @@
 use Rattle.std.specs.Prelude.{ℕ, ◌-◌, ◌||◌, min, nat_le, List, length, Bool}
 use Rattle.dc_host.specs.Outside.{counted, is_listed}
 
--- the bytes taken, how many fit in all and in a call, the numbers of the calls that fail, and how many calls and faults there were
+-- the bytes taken, how many fit in all and in a call, the numbers of the calls that fail, and how
+-- many calls and faults there were
 pub record Held : Type 0 where
   pub bytes : List ℕ
   pub room : ℕ

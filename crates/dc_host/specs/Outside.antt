@@ -48,7 +48,8 @@ appended known more = option_map (λ xs. xs ++ more) known
 -- the bytes are those of the file, cut after the limit and one more
 abbrev pub IsTextOf : Option Files → List ℕ → ℕ → List ℕ → Type 0
 IsTextOf None name limit bytes = Unit {0}
-IsTextOf (Some files) name limit bytes = option_map (λ whole. take (limit + 1) whole) (files name) ≡ Some bytes
+IsTextOf (Some files) name limit bytes =
+    option_map (λ whole. take (limit + 1) whole) (files name) ≡ Some bytes
 
 -- the files are told, and have none of this name
 abbrev pub IsAbsent : Option Files → List ℕ → Type 0

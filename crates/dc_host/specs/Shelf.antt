@@ -53,8 +53,10 @@ pub record IsSame (old new : Shelf) : Type 0 where
 abbrev pub IsAnswer : Bool → Option (List ℕ) → ℕ → Result (Vec ℕ Global) StoreFault → Type 0
 IsAnswer true file limit answer = IsErrOf answer Failed
 IsAnswer false None limit answer = IsErrOf answer Missing
-IsAnswer false (Some whole) limit answer = MatchResult answer (λ v. v.items ≡ take (limit + 1) whole) (λ e. e ≡ NoMemory)
+IsAnswer false (Some whole) limit answer =
+    MatchResult answer (λ v. v.items ≡ take (limit + 1) whole) (λ e. e ≡ NoMemory)
 
 -- what the next call answers for a name
 abbrev pub IsFetched : Shelf → List ℕ → ℕ → Result (Vec ℕ Global) StoreFault → Type 0
-IsFetched shelf name limit answer = IsAnswer (is_listed (counted shelf.calls) shelf.failing) (shelf.files name) limit answer
+IsFetched shelf name limit answer =
+    IsAnswer (is_listed (counted shelf.calls) shelf.failing) (shelf.files name) limit answer

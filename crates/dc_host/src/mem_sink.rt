@@ -27,9 +27,11 @@ impl Model for MemSink {
 
     ghost Value = { Held };
 
-    ghost view = { λ s. record { bytes = s.bytes.items; room = s.room; piece = s.piece; failing = s.failing.items; calls = s.calls; faults = s.faults } };
+    ghost view = { λ s. record { bytes = s.bytes.items; room = s.room; piece = s.piece;
+        failing = s.failing.items; calls = s.calls; faults = s.faults } };
 
-    ghost invariant = { λ s. (length s.bytes.items ≤ s.room) × (s.room ≤ vec_capacity s.bytes) × (0 < s.piece) };
+    ghost invariant = { λ s. (length s.bytes.items ≤ s.room) × (s.room ≤ vec_capacity s.bytes)
+        × (0 < s.piece) };
 }
 
 impl MemSink {
@@ -41,7 +43,9 @@ impl MemSink {
     /// `AllocError` where memory ran out.
     pub fn new(alloc: Global, room: usize, piece: usize) -> Result<MemSink, AllocError>
         requires { 0 < piece }
-        ensures { IfOk result (λ s. s ≡ record { bytes = []; room = room; piece = piece; failing = []; calls = 0; faults = 0 }) }
+        ensures { IfOk result
+            (λ s. s ≡ record { bytes = []; room = room; piece = piece; failing = []; calls = 0;
+            faults = 0 }) }
     {
         Ok(MemSink {
             bytes: Vec::with_capacity(alloc, room)?,
@@ -59,7 +63,8 @@ impl MemSink {
     ///
     /// `AllocError` where memory ran out. The sink is as before.
     pub fn fail_at(&mut self, call: u64) -> Result<(), AllocError>
-        ensures added { OnOk result (self.new ≡ record self.old { failing = self.old.failing ++ call ∷ [] }) }
+        ensures added { OnOk result
+            (self.new ≡ record self.old { failing = self.old.failing ++ call ∷ [] }) }
         ensures kept { OnErr result (self.new ≡ self.old) }
     {
         self.failing.push(call)?;
@@ -97,11 +102,17 @@ impl Sink for MemSink {
     /// Takes the least of `piece`, the room left and the length of the bytes. It takes no memory.
     fn put(&mut self, bytes: &[u8]) -> Result<usize, SinkFailed>
         // An empty piece is taken at every call, and only the call is counted.
-        ensures nothing { length bytes.now ≡ 0 → IsOkAnd result (λ k. k ≡ 0) × (self.new ≡ record self.old { calls = counted self.old.calls }) }
+        ensures nothing { length bytes.now ≡ 0 → IsOkAnd result (λ k. k ≡ 0)
+            × (self.new ≡ record self.old { calls = counted self.old.calls }) }
         // A listed call, and one without room, takes nothing, and is a counted fault.
-        ensures refused { 0 < length bytes.now → refuses self.old ≡ true → IsErr result × (self.new ≡ record self.old { calls = counted self.old.calls; faults = counted self.old.faults }) }
+        ensures refused { 0 < length bytes.now → refuses self.old ≡ true → IsErr result
+            × (self.new ≡ record self.old { calls = counted self.old.calls;
+            faults = counted self.old.faults }) }
         // Each other call takes its share.
-        ensures shared { 0 < length bytes.now → refuses self.old ≡ false → IsOkAnd result (λ k. k ≡ share self.old bytes.now) × (self.new ≡ record self.old { bytes = self.old.bytes ++ take (share self.old bytes.now) bytes.now; calls = counted self.old.calls }) }
+        ensures shared { 0 < length bytes.now → refuses self.old ≡ false
+            → IsOkAnd result (λ k. k ≡ share self.old bytes.now)
+            × (self.new ≡ record self.old { bytes = self.old.bytes
+            ++ take (share self.old bytes.now) bytes.now; calls = counted self.old.calls }) }
         ensures some { IfOk result (λ k. 0 < length bytes.now → 0 < k) }
         ensures later { self.old.faults ≤ self.new.faults }
     {

@@ -55,7 +55,9 @@ impl MemStore {
     ///
     /// `AllocError` where memory ran out. The store is as before.
     pub fn fail_at(&mut self, call: u64) -> Result<(), AllocError>
-        ensures added { OnOk result (shelf_of self.new ≡ record (shelf_of self.old) { failing = (shelf_of self.old).failing ++ call ∷ [] }) }
+        ensures added { OnOk result
+            (shelf_of self.new ≡ record
+            (shelf_of self.old) { failing = (shelf_of self.old).failing ++ call ∷ [] }) }
         ensures kept { OnErr result (shelf_of self.new ≡ shelf_of self.old) }
     {
         self.failing.push(call)?;
@@ -82,7 +84,9 @@ impl Store for MemStore {
         // A listed call fails. Another one hands out the file, or says that it is missing.
         ensures answer { IsFetched (shelf_of self.old) name.now limit result }
         // The call and its fault were counted, and all else stays.
-        ensures counts { shelf_of self.new ≡ record (shelf_of self.old) { calls = counted (shelf_of self.old).calls; faults = faults_after result (shelf_of self.old).faults } }
+        ensures counts { shelf_of self.new
+            ≡ record (shelf_of self.old) { calls = counted (shelf_of self.old).calls;
+            faults = faults_after result (shelf_of self.old).faults } }
         ensures later { (shelf_of self.old).faults ≤ (shelf_of self.new).faults }
     {
         self.calls = self.calls.saturating_add(1);

@@ -28,7 +28,8 @@ pub trait Sink {
         ensures within { IfOk result (λ k. k ≤ length bytes.now) }
         ensures some { IfOk result (λ k. 0 < length bytes.now → 0 < k) }
         ensures empty { length bytes.now ≡ 0 → IsOkAnd result (λ k. k ≡ 0) }
-        ensures taken { IfOk result (λ k. written self.new ≡ appended (written self.old) (take k bytes.now)) }
+        ensures taken { IfOk result
+            (λ k. written self.new ≡ appended (written self.old) (take k bytes.now)) }
         ensures kept { OnErr result (written self.new ≡ written self.old) }
         ensures later { faults self.old ≤ faults self.new }
         ensures failed { OnErr result (Rose (faults self.old) (faults self.new)) };
@@ -41,7 +42,9 @@ pub trait Sink {
 /// `SinkFailed` only where the sink counted a fault in this call: a proper prefix was taken.
 pub fn put_all<O: Sink>(sink: &mut O, bytes: &[u8]) -> Result<(), SinkFailed>
     ensures taken { OnOk result (O.written sink.new ≡ appended (O.written sink.old) bytes.now) }
-    ensures part { OnErr result ((k : ℕ) × (k < length bytes.now) × (O.written sink.new ≡ appended (O.written sink.old) (take k bytes.now))) }
+    ensures part { OnErr result
+        ((k : ℕ) × (k < length bytes.now)
+        × (O.written sink.new ≡ appended (O.written sink.old) (take k bytes.now))) }
     ensures later { O.faults sink.old ≤ O.faults sink.new }
     ensures failed { OnErr result (Rose (O.faults sink.old) (O.faults sink.new)) }
 {

@@ -41,12 +41,14 @@ impl Store for SureStore {
 
     ghost faults = { λ _. 0 };
 
-    ghost call = { λ before name limit answer after. MatchResult answer (λ v. v.items ≡ take (limit + 1) before) (λ e. e ≡ StoreFault.NoMemory) };
+    ghost call = { λ before name limit answer after. MatchResult answer
+        (λ v. v.items ≡ take (limit + 1) before) (λ e. e ≡ StoreFault.NoMemory) };
 
     /// Hands out the first `limit + 1` bytes of the text, whatever the name is.
     fn fetch(&mut self, alloc: Global, name: &str, limit: usize) -> Result<Vec<u8>, StoreFault>
         requires { limit < 2 ^ 64 - 1 }
-        ensures answer { MatchResult result (λ v. v.items ≡ take (limit + 1) self.old) (λ e. e ≡ StoreFault.NoMemory) }
+        ensures answer { MatchResult result (λ v. v.items ≡ take (limit + 1) self.old)
+            (λ e. e ≡ StoreFault.NoMemory) }
         ensures stays { self.new ≡ self.old }
     {
         let end = self.text.len().min(limit + 1);

@@ -1,4 +1,5 @@
-//! The real files and streams. What they hold no contract tells; what is done with the bytes that they hand over and take is proved.
+//! The real files and streams. What they hold no contract tells; what is done with the bytes that
+//! they hand over and take is proved.
 ghost use Rattle.std.specs.Prelude.{◌≡◌, ◌≢◌, ◌+◌, ◌-◌, ◌^◌, ◌<◌, ◌≤◌, length, take, IfOk, IfSome, IsOkAnd, IsErrOf, None, ⊤};
 ghost use Rattle.dc_host.specs.Outside.{Rose, IsTextOf, faults_after, count_after};
 ghost use Rattle.std.specs.Io.KnownBytes.{WriteAppends};
@@ -87,11 +88,13 @@ fn read_start<R: Files>(rt: &R, alloc: Global, name: &str, limit: usize) -> Resu
     read_from(&mut file, alloc, limit)
 }
 
-/// The first `limit + 1` bytes that a reader has, or all where they are fewer. Each turn takes at least one.
+/// The first `limit + 1` bytes that a reader has, or all where they are fewer. Each turn takes at
+/// least one.
 pub fn read_from<F: Read>(file: &mut F, alloc: Global, limit: usize) -> Result<Vec<u8>, Unread>
     requires { limit < 2 ^ 64 - 1 }
     ensures short { IfOk result (λ v. length v.items ≤ limit + 1) }
-    ensures bytes { IfOk result (λ v. IfSome (F.remaining file.old) (λ xs. v.items ≡ take (limit + 1) xs)) }
+    ensures bytes { IfOk result
+        (λ v. IfSome (F.remaining file.old) (λ xs. v.items ≡ take (limit + 1) xs)) }
 {
     let mut text = Vec::new(alloc);
     let mut chunk = [0u8; CHUNK];
@@ -137,7 +140,8 @@ impl<W: Write + Drop> Sink for StdSink<W> {
         ensures some { IfOk result (λ k. 0 < length bytes.now → 0 < k) }
         ensures empty { length bytes.now ≡ 0 → IsOkAnd result (λ k. k ≡ 0) }
         ensures count { self.new.faults ≡ count_after result self.old.faults }
-        ensures bytes { WriteAppends (W.contents self.old.writer) (W.contents self.new.writer) result bytes.now }
+        ensures bytes { WriteAppends (W.contents self.old.writer)
+            (W.contents self.new.writer) result bytes.now }
         ensures later { self.old.faults ≤ self.new.faults }
     {
         if bytes.is_empty() {

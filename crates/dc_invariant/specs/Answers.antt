@@ -12,13 +12,15 @@ use Rattle.dc_invariant.specs.Prunes.{questions_asked}
 use Rattle.dc_invariant.specs.Keeps.{AreLive, keeps_asked, IsSidePart}
 
 -- the printed atoms of the family, whose problems all come to their end
-pub record TellsPrinted (side : Side) (s : Graph) (c : Candidates) (J : Family) (budget : ℕ) (printed : List (List Atom)) : Type 0 where
+pub record TellsPrinted (side : Side) (s : Graph) (c : Candidates) (J : Family) (budget : ℕ)
+    (printed : List (List Atom)) : Type 0 where
   pub questions : List (List Question)
   pub printed_is : ArePrinted s c J printed questions
   pub through : AllDone budget (questions_asked side c J 0 questions)
 
 -- the side of the certificate, whose problems all come to their end
-pub record TellsKeeps (side : Side) (s : Graph) (cases : List (List Atom)) (live : List Bool) (printed : List (List Atom)) (budget : ℕ) (x : SideCert) : Type 0 where
+pub record TellsKeeps (side : Side) (s : Graph) (cases : List (List Atom)) (live : List Bool)
+    (printed : List (List Atom)) (budget : ℕ) (x : SideCert) : Type 0 where
   pub flags : List Bool
   pub right : AreLive s printed flags
   pub part : IsSidePart s printed budget cases live flags x

@@ -17,26 +17,40 @@ use Rattle.dc_invariant.specs.Answers.{TellsKeeps}
 
 -- ---- pruning
 abbrev pub HasPruning : Type 0
-HasPruning = (side : Side) (s : Graph) (c : Candidates) (J : Family) → (asked : List Asked) × PrunesAsk side c J s asked
+HasPruning =
+    (side : Side) (s : Graph) (c : Candidates) (J : Family) → (asked : List Asked)
+    × PrunesAsk side c J s asked
 
 abbrev pub OnePruning : Type 0
-OnePruning = (side : Side) (s : Graph) (c : Candidates) (J : Family) (ps qs : List Asked) → PrunesAsk side c J s ps → PrunesAsk side c J s qs → ps ≡ qs
+OnePruning =
+    (side : Side) (s : Graph) (c : Candidates) (J : Family) (ps qs : List Asked)
+    → PrunesAsk side c J s ps → PrunesAsk side c J s qs → ps ≡ qs
 
 -- printed atoms are such as `keep_proofs` is handed
 abbrev pub PrintedAreAtoms : Type 0
-PrintedAreAtoms = (s : Graph) (c : Candidates) (J : Family) (printed : List (List Atom)) (asked : List (List Question))
-    → AreCandidates s.vars c → ArePrinted s c J printed asked → AllByRecursion (AllAtoms (IsFullAtom s.vars)) printed
+PrintedAreAtoms =
+    (s : Graph) (c : Candidates) (J : Family) (printed : List (List Atom))
+    (asked : List (List Question))
+    → AreCandidates s.vars c → ArePrinted s c J printed asked
+      → AllByRecursion (AllAtoms (IsFullAtom s.vars)) printed
 
 -- ---- keeps
 abbrev pub HasKeeping : Type 0
-HasKeeping = (side : Side) (s : Graph) (printed : List (List Atom)) (cases : List (List Atom)) (live : List Bool)
+HasKeeping =
+    (side : Side) (s : Graph) (printed : List (List Atom)) (cases : List (List Atom))
+    (live : List Bool)
     → (asked : List Asked) × KeepsAsk side s printed cases live asked
 
 abbrev pub OneKeeping : Type 0
-OneKeeping = (side : Side) (s : Graph) (printed : List (List Atom)) (cases : List (List Atom)) (live : List Bool) (ps qs : List Asked)
+OneKeeping =
+    (side : Side) (s : Graph) (printed : List (List Atom)) (cases : List (List Atom))
+    (live : List Bool) (ps qs : List Asked)
     → KeepsAsk side s printed cases live ps → KeepsAsk side s printed cases live qs → ps ≡ qs
 
 -- the side of the certificate is determined
 abbrev pub OneSide : Type 0
-OneSide = (side : Side) (s : Graph) (cases : List (List Atom)) (live : List Bool) (printed : List (List Atom)) (budget : ℕ) (x y : SideCert)
-    → TellsKeeps side s cases live printed budget x → TellsKeeps side s cases live printed budget y → x ≡ y
+OneSide =
+    (side : Side) (s : Graph) (cases : List (List Atom)) (live : List Bool)
+    (printed : List (List Atom)) (budget : ℕ) (x y : SideCert)
+    → TellsKeeps side s cases live printed budget x → TellsKeeps side s cases live printed budget y
+      → x ≡ y

@@ -40,7 +40,8 @@ Only ps asked = asked ≡ ps
 
 -- ---- one problem
 -- the answer says whether the atom is entailed, and its problem comes to its end
-pub record TellsEntailed (place : Place) (hyps : List Atom) (a : Atom) (budget : ℕ) (answer : Bool) : Type 0 where
+pub record TellsEntailed (place : Place) (hyps : List Atom) (a : Atom) (budget : ℕ)
+    (answer : Bool) : Type 0 where
   pub says : (answer ≡ true) ↔ Entails hyps a
   pub done : IsDone budget (ask place (sup_problem hyps a.coefs))
 
@@ -62,7 +63,8 @@ one_asked place k atoms = ask place (sup_problem (remove atoms k) (atom_number a
 -- it is left out where the others entail it
 pub record IsOneStep (place : Place) (k budget : ℕ) (old new : List Atom) : Type 0 where
   pub done : IsDone budget (one_asked place k old)
-  pub step : (Entails (remove old k) (atom_number old k) × (new ≡ remove old k)) ⊎ ((¬ Entails (remove old k) (atom_number old k)) × (new ≡ old))
+  pub step : (Entails (remove old k) (atom_number old k) × (new ≡ remove old k))
+      ⊎ ((¬ Entails (remove old k) (atom_number old k)) × (new ≡ old))
 
 abbrev pub family : Pruning → Family
 family t = stands_for t.system.now.vars t.candidates.now t.at.now
@@ -79,7 +81,9 @@ question t l q = question_asked t.side t.candidates.now (family t) l q
 -- what is asked at one location
 abbrev pub LocationAsks : Pruning → ℕ → List Asked → Type 0
 LocationAsks t l asked =
-    (printed : List Atom) × (qs : List Question) × IsPrinted t.candidates.now (family t) l t.system.now.vars printed qs × (asked ≡ map (question t l) qs)
+    (printed : List Atom) × (qs : List Question)
+        × IsPrinted t.candidates.now (family t) l t.system.now.vars printed qs
+        × (asked ≡ map (question t l) qs)
 
 -- its printed atoms
 pub record TellsLocation (t : Pruning) (l : ℕ) (printed : List Atom) : Type 0 where
@@ -96,7 +100,8 @@ pub record IsListed (t : Pruning) (l : ℕ) (rows : List ℕ) (atoms : List Atom
 -- what is asked of them
 abbrev pub RowsAsk : Pruning → ℕ → List ℕ → List Asked → Type 0
 RowsAsk t l rows asked =
-    (left : List ℕ) × (qs : List Question) × Pruned t.candidates.now (family t) l rows [] qs left × (asked ≡ map (question t l) qs)
+    (left : List ℕ) × (qs : List Question) × Pruned t.candidates.now (family t) l rows [] qs left
+        × (asked ≡ map (question t l) qs)
 
 -- and what is left of them
 pub record ArePruned (t : Pruning) (l : ℕ) (rows : List ℕ) (atoms : List Atom) : Type 0 where
@@ -108,10 +113,13 @@ pub record ArePruned (t : Pruning) (l : ℕ) (rows : List ℕ) (atoms : List Ato
 
 -- the least bound of a row is one, and its atom with it
 abbrev pub HasLeast : Candidates → List (Option ℕ) → ℕ → Type 0
-HasLeast c least r = (r < length least) × (r < length c.rows) × ((k : ℕ) × (slice_index_or least r None ≡ Some k) × (k < length c.bounds))
+HasLeast c least r =
+    (r < length least) × (r < length c.rows)
+    × ((k : ℕ) × (slice_index_or least r None ≡ Some k) × (k < length c.bounds))
 
 abbrev pub kept_atom : Candidates → List (Option ℕ) → ℕ → Atom
-kept_atom c least r = bounded (row_at c r) (or_zero (option_map (bound_at c) (slice_index_or least r None)))
+kept_atom c least r =
+    bounded (row_at c r) (or_zero (option_map (bound_at c) (slice_index_or least r None)))
 
 -- the numbers of the rows that have a least bound
 abbrev pub rows_with : List (Option ℕ) → List ℕ
@@ -131,43 +139,55 @@ graph t = graph_of t.system.now
 
 -- ---- the entry
 abbrev pub IsEntryKeep : Keeping → List Atom → Atom → Sparse → Type 0
-IsEntryKeep t case a k = IsKeep case t.system.now.params (at_start t.system.now.params a).coefs (at_start t.system.now.params a) t.budget k
+IsEntryKeep t case a k =
+    IsKeep case t.system.now.params
+    (at_start t.system.now.params a).coefs (at_start t.system.now.params a) t.budget k
 
 -- of one case
 abbrev pub case_asked : Keeping → ℕ → List Atom → Bool → List Asked
 case_asked t k case live = if live then entry_asked t.side (graph t) t.printed.now k case else []
 
-pub record IsCasePart (t : Keeping) (k : ℕ) (case : List Atom) (live : Bool) (xs : List Sparse) : Type 0 where
+pub record IsCasePart (t : Keeping) (k : ℕ) (case : List Atom) (live : Bool)
+    (xs : List Sparse) : Type 0 where
   pub keeps : side.AreCaseKeeps (graph t) t.printed.now t.budget case live xs
   pub done : AllDone t.budget (case_asked t k case live)
 
 -- of all cases
 abbrev pub EntryAsks : Keeping → List Asked → Type 0
-EntryAsks t asked = asked ≡ for_live (entry_asked t.side (graph t) t.printed.now) 0 t.cases.now t.live.now
+EntryAsks t asked =
+    asked ≡ for_live (entry_asked t.side (graph t) t.printed.now) 0 t.cases.now t.live.now
 
 pub record AreEntryKeeps (t : Keeping) (xs : List (List Sparse)) : Type 0 where
   pub keeps : side.AreEntryKeeps (graph t) t.printed.now t.budget t.cases.now t.live.now xs
-  pub done : AllDone t.budget (for_live (entry_asked t.side (graph t) t.printed.now) 0 t.cases.now t.live.now)
+  pub done : AllDone t.budget
+      (for_live (entry_asked t.side (graph t) t.printed.now) 0 t.cases.now t.live.now)
 
 -- ---- edges
 -- one keep
 abbrev pub IsKeepAlong : Keeping → Edge → Atom → Sparse → Type 0
 IsKeepAlong t e a k =
-    IsKeep (side.kept_atoms (graph t) t.printed.now e) (edge_places t.system.now.vars e) (form_after t.system.now.vars e a.coefs) (atom_after t.system.now.vars e a) t.budget k
+    IsKeep (side.kept_atoms (graph t) t.printed.now e) (edge_places t.system.now.vars e)
+      (form_after t.system.now.vars e a.coefs) (atom_after t.system.now.vars e a) t.budget k
 
 -- of one live edge
 abbrev pub AlongAsks : Keeping → ℕ → Edge → List Asked → Type 0
-AlongAsks t k e asked = asked ≡ numbered (atom_along t.side (graph t) t.printed.now k e) 0 (side.printed_at (graph t) t.printed.now e.to)
+AlongAsks t k e asked =
+    asked ≡ numbered (atom_along t.side (graph t) t.printed.now k e) 0 (side.printed_at
+    (graph t) t.printed.now e.to)
 
 pub record AreKeepsAlong (t : Keeping) (k : ℕ) (e : Edge) (xs : List Sparse) : Type 0 where
-  pub keeps : AreKeeps (side.kept_atoms (graph t) t.printed.now e) (edge_places t.system.now.vars e) (λ a. form_after t.system.now.vars e a.coefs)
+  pub keeps : AreKeeps (side.kept_atoms (graph t) t.printed.now e) (edge_places t.system.now.vars e)
+      (λ a. form_after t.system.now.vars e a.coefs)
       (atom_after t.system.now.vars e) t.budget (side.printed_at (graph t) t.printed.now e.to) xs
-  pub done : AllDone t.budget (numbered (atom_along t.side (graph t) t.printed.now k e) 0 (side.printed_at (graph t) t.printed.now e.to))
+  pub done : AllDone t.budget
+      (numbered (atom_along t.side (graph t) t.printed.now k e) 0 (side.printed_at
+      (graph t) t.printed.now e.to))
 
 -- of one edge
 abbrev pub EdgeAsks : Keeping → ℕ → Edge → List Asked → Type 0
 EdgeAsks t k e asked =
-    (b : Bool) × IsFlag b (side.kept_atoms (graph t) t.printed.now e) × (asked ≡ edge_asked t.side (graph t) t.printed.now k e b)
+    (b : Bool) × IsFlag b (side.kept_atoms (graph t) t.printed.now e)
+        × (asked ≡ edge_asked t.side (graph t) t.printed.now k e b)
 
 pub record IsEdgePart (t : Keeping) (k : ℕ) (e : Edge) (x : EdgeCert) : Type 0 where
   pub live : Bool
@@ -178,10 +198,12 @@ pub record IsEdgePart (t : Keeping) (k : ℕ) (e : Edge) (x : EdgeCert) : Type 0
 -- of all edges
 abbrev pub EdgesAsk : Keeping → List Asked → Type 0
 EdgesAsk t asked =
-    (flags : List Bool) × AreLive (graph t) t.printed.now flags × (asked ≡ for_edges (edge_asked t.side (graph t) t.printed.now) 0 t.system.now.edges flags)
+    (flags : List Bool) × AreLive (graph t) t.printed.now flags
+        × (asked ≡ for_edges (edge_asked t.side (graph t) t.printed.now) 0 t.system.now.edges flags)
 
 pub record AreEdgeParts (t : Keeping) (xs : List EdgeCert) : Type 0 where
   pub flags : List Bool
   pub right : AreLive (graph t) t.printed.now flags
   pub parts : side.AreEdgeParts (graph t) t.printed.now t.budget t.system.now.edges flags xs
-  pub done : AllDone t.budget (for_edges (edge_asked t.side (graph t) t.printed.now) 0 t.system.now.edges flags)
+  pub done : AllDone t.budget
+      (for_edges (edge_asked t.side (graph t) t.printed.now) 0 t.system.now.edges flags)

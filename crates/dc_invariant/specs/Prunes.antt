@@ -14,7 +14,8 @@ use Rattle.dc_families.specs.Printed.{Question, atoms_of, ArePrinted}
 module _ (side : Side) (c : Candidates) (J : Family) where
   -- from which bound on the atoms of other rows entail a row
   abbrev pub question_asked : ℕ → Question → Asked
-  question_asked l q = ask (place.Prune side l q.row) (sup_problem (atoms_of c J l q.others) (row_at c q.row))
+  question_asked l q =
+      ask (place.Prune side l q.row) (sup_problem (atoms_of c J l q.others) (row_at c q.row))
 
   -- location by location, where the first has number l
   abbrev pub questions_asked : ℕ → List (List Question) → List Asked
@@ -24,4 +25,5 @@ module _ (side : Side) (c : Candidates) (J : Family) where
   -- for the printed atoms of all locations
   abbrev pub PrunesAsk : Graph → List Asked → Type 0
   PrunesAsk s asked =
-      (printed : List (List Atom)) × (questions : List (List Question)) × ArePrinted s c J printed questions × (asked ≡ questions_asked 0 questions)
+      (printed : List (List Atom)) × (questions : List (List Question))
+          × ArePrinted s c J printed questions × (asked ≡ questions_asked 0 questions)

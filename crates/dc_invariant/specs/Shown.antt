@@ -1,4 +1,5 @@
--- What the lines of one side of a certificate are: the vectors of the outcomes of their problems, and what these show.
+-- What the lines of one side of a certificate are: the vectors of the outcomes of their problems,
+-- and what these show.
 use Rattle.std.specs.Prelude.{◌≡◌, ℕ, List, [], ◌∷◌, ℤ}
 use Rattle.dc_frac.specs.declared.Frac.{Frac}
 use Rattle.dc_affine.specs.declared.atom.Atom.{Atom}
@@ -25,16 +26,19 @@ pub record IsRefutationOf (p : Linear ℤ) (budget : ℕ) (k : Sparse) : Type 0 
   pub items : k.items ≡ nonzero_from 0 whole
 
 -- ---- keeps: the multipliers with which a list shows an atom over n places, whose form is given
-pub record IsKeep (hyps : List Atom) (n : ℕ) (form : List ℤ) (a : Atom) (budget : ℕ) (k : Sparse) : Type 0 where
+pub record IsKeep (hyps : List Atom) (n : ℕ) (form : List ℤ) (a : Atom) (budget : ℕ)
+    (k : Sparse) : Type 0 where
   pub vector : IsSolutionOf (sup_problem hyps form) budget k
   pub shows : ShowsAtom hyps n a (entry_of k.items)
 
 -- one for each atom of a list, with its form, and the atom that is shown for it
-abbrev pub AreKeeps : List Atom → ℕ → (Atom → List ℤ) → (Atom → Atom) → ℕ → List Atom → List Sparse → Type 0
+abbrev pub AreKeeps : List Atom → ℕ → (Atom → List ℤ) → (Atom → Atom) → ℕ → List Atom → List Sparse
+    → Type 0
 AreKeeps hyps n form shown budget [] [] = Unit {0}
 AreKeeps hyps n form shown budget [] (k ∷ ks) = ⊥
 AreKeeps hyps n form shown budget (a ∷ atoms) [] = ⊥
-AreKeeps hyps n form shown budget (a ∷ atoms) (k ∷ ks) = IsKeep hyps n (form a) (shown a) budget k × AreKeeps hyps n form shown budget atoms ks
+AreKeeps hyps n form shown budget (a ∷ atoms) (k ∷ ks) =
+    IsKeep hyps n (form a) (shown a) budget k × AreKeeps hyps n form shown budget atoms ks
 
 -- ---- lines about lists over n places
 -- dead, with multipliers that combine the list to -1

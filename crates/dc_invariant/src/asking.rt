@@ -41,7 +41,8 @@ fn is_at_most(value: &Frac, bound: &i64) -> bool
     }
 }
 
-/// Whether atoms that some point meets entail an atom, by the least number from which its form is entailed.
+/// Whether atoms that some point meets entail an atom, by the least number from which its form is
+/// entailed.
 pub(crate) fn entails<T: Tableau>(
     alloc: Global,
     place: Place,
@@ -56,7 +57,8 @@ pub(crate) fn entails<T: Tableau>(
     requires atom { IsFullAtom vars atom.now }
     requires live { ¬ IsDead hyps.now }
     ensures answer { IfOk result (TellsEntailed place hyps.now atom.now budget) }
-    ensures fault { IfErr result (IsFault budget (Only (ask place (sup_problem hyps.now atom.now.coefs) ∷ []))) }
+    ensures fault { IfErr result
+        (IsFault budget (Only (ask place (sup_problem hyps.now atom.now.coefs) ∷ []))) }
 {
     let form = first_numbers(alloc, atom.coefs.as_slice(), vars)?;
     match sup(alloc, hyps, &form, tableau, budget) {
@@ -80,7 +82,8 @@ pub(crate) fn keep<T: Tableau>(
     requires light { sum_by unsigned_abs form.now < 2 ^ 70 }
     requires bounded { HasBound hyps.now form.now }
     ensures answer { IfOk result (IsLeastKeep hyps.now form.now budget) }
-    ensures fault { IfErr result (IsFault budget (Only (ask place (sup_problem hyps.now form.now) ∷ []))) }
+    ensures fault { IfErr result
+        (IsFault budget (Only (ask place (sup_problem hyps.now form.now) ∷ []))) }
 {
     match sup(alloc, hyps, form, tableau, budget) {
         Ok(Sup::At { mult, .. }) => Ok(sparse_of(alloc, &mult)?),
@@ -101,7 +104,8 @@ pub(crate) fn line<T: Tableau>(
     requires atoms { AllAtoms (IsAtom places) hyps.now }
     ensures answer { IfOk result (IsLine hyps.now places budget) }
     ensures flag { IfOk result (λ l. IsFlag (is_live l) hyps.now) }
-    ensures fault { IfErr result (IsFault budget (Only (ask place (empty_problem hyps.now places) ∷ []))) }
+    ensures fault { IfErr result
+        (IsFault budget (Only (ask place (empty_problem hyps.now places) ∷ []))) }
 {
     match empty(alloc, hyps, places, tableau, budget) {
         Ok(Emptiness::Dead { mult }) => Ok(Liveness::Dead(sparse_of(alloc, &mult)?)),

@@ -30,7 +30,8 @@ use dc_system::{Edge, System, row_after};
 use sqlite_items::Items;
 use std::alloc::{AllocError, Global};
 
-/// A program's system, the cases of the condition and whether each is live, and the printed atoms of each location.
+/// A program's system, the cases of the condition and whether each is live, and the printed atoms
+/// of each location.
 #[derive(Drop)]
 pub(crate) struct Keeping<'a> {
     pub side: Side,
@@ -54,7 +55,9 @@ fn atoms_of<'a>(t: &'a Keeping, location: usize) -> &'a [Atom]
 fn edge_atoms(alloc: Global, t: &Keeping, edge: &Edge) -> Result<Vec<Atom>, AllocError>
     requires lent { IsKeeping t.now }
     requires edge { Among edge.now t.now.system.now.edges }
-    ensures { IfOk result (λ v. v.items ≡ guarded (places_of t.now.system.now.vars edge.now) (printed_at (graph t.now) t.now.printed.now edge.now.from) edge.now) }
+    ensures { IfOk result
+        (λ v. v.items ≡ guarded (places_of t.now.system.now.vars edge.now)
+        (printed_at (graph t.now) t.now.printed.now edge.now.from) edge.now) }
 {
     let atoms = copied(alloc, atoms_of(t, edge.from))?;
     with_guard(alloc, atoms, edge, edge_places(t.system.vars, edge))
@@ -75,7 +78,10 @@ fn entry_keep<T: Tableau>(
     requires live { ¬ IsDead case.now }
     requires atom { Among atom.now (printed_at (graph t.now) t.now.printed.now 0) }
     ensures answer { IfOk result (IsEntryKeep t.now case.now atom.now) }
-    ensures fault { IfErr result (IsFault t.now.budget (Only (atom_at_entry t.now.side (graph t.now) t.now.printed.now case_number case.now number atom.now ∷ []))) }
+    ensures fault { IfErr result
+        (IsFault t.now.budget
+        (Only (atom_at_entry t.now.side
+        (graph t.now) t.now.printed.now case_number case.now number atom.now ∷ []))) }
 {
     let form = first_numbers(alloc, atom.coefs.as_slice(), t.system.params)?;
     let place = Place::KeptEntry {
@@ -98,7 +104,8 @@ fn case_keeps<T: Tableau>(
     requires case { Among case.now t.now.cases.now }
     requires live { ¬ IsDead case.now }
     ensures answer { IfOk result (IsCasePart t.now case_number case.now true) }
-    ensures fault { IfErr result (IsFault t.now.budget (Only (case_asked t.now case_number case.now true))) }
+    ensures fault { IfErr result
+        (IsFault t.now.budget (Only (case_asked t.now case_number case.now true))) }
 {
     let mut keeps = Items::new(alloc);
     let atoms = atoms_of(t, 0);
@@ -124,7 +131,8 @@ fn keeps_if_live<T: Tableau>(
     requires case { Among case.now t.now.cases.now }
     requires flag { IsFlag live case.now }
     ensures answer { IfOk result (IsCasePart t.now case_number case.now live) }
-    ensures fault { IfErr result (IsFault t.now.budget (Only (case_asked t.now case_number case.now live))) }
+    ensures fault { IfErr result
+        (IsFault t.now.budget (Only (case_asked t.now case_number case.now live))) }
 {
     if !live {
         return Ok(Items::new(alloc));
@@ -165,11 +173,16 @@ fn edge_keep<T: Tableau>(
 ) -> Result<Sparse, InvFault>
     requires lent { IsKeeping t.now }
     requires edge { Among edge.now t.now.system.now.edges }
-    requires hyps { hyps.now ≡ guarded (places_of t.now.system.now.vars edge.now) (printed_at (graph t.now) t.now.printed.now edge.now.from) edge.now }
+    requires hyps { hyps.now
+        ≡ guarded (places_of t.now.system.now.vars edge.now)
+        (printed_at (graph t.now) t.now.printed.now edge.now.from) edge.now }
     requires live { ¬ IsDead (kept_atoms (graph t.now) t.now.printed.now edge.now) }
     requires atom { Among atom.now (printed_at (graph t.now) t.now.printed.now edge.now.to) }
     ensures answer { IfOk result (IsKeepAlong t.now edge.now atom.now) }
-    ensures fault { IfErr result (IsFault t.now.budget (Only (atom_along t.now.side (graph t.now) t.now.printed.now edge_number edge.now number atom.now ∷ []))) }
+    ensures fault { IfErr result
+        (IsFault t.now.budget
+        (Only (atom_along t.now.side
+        (graph t.now) t.now.printed.now edge_number edge.now number atom.now ∷ []))) }
 {
     let vars = t.system.vars;
     let places = edge_places(vars, edge);
@@ -194,7 +207,9 @@ fn edge_keeps<T: Tableau>(
 ) -> Result<Items<Sparse>, InvFault>
     requires lent { IsKeeping t.now }
     requires edge { Among edge.now t.now.system.now.edges }
-    requires hyps { hyps.now ≡ guarded (places_of t.now.system.now.vars edge.now) (printed_at (graph t.now) t.now.printed.now edge.now.from) edge.now }
+    requires hyps { hyps.now
+        ≡ guarded (places_of t.now.system.now.vars edge.now)
+        (printed_at (graph t.now) t.now.printed.now edge.now.from) edge.now }
     requires live { ¬ IsDead (kept_atoms (graph t.now) t.now.printed.now edge.now) }
     ensures answer { IfOk result (AreKeepsAlong t.now edge_number edge.now) }
     ensures fault { IfErr result (IsFault t.now.budget (AlongAsks t.now edge_number edge.now)) }
@@ -266,21 +281,25 @@ fn edge_parts<T: Tableau>(
 /// The line of the exit.
 fn exit_line<T: Tableau>(alloc: Global, t: &Keeping, tableau: &mut T) -> Result<Liveness, InvFault>
     requires lent { IsKeeping t.now }
-    ensures answer { IfOk result (IsLine (exit_atoms (graph t.now) t.now.printed.now) t.now.system.now.vars t.now.budget) }
-    ensures fault { IfErr result (IsFault t.now.budget (Only (exit_asked t.now.side (graph t.now) t.now.printed.now ∷ []))) }
+    ensures answer { IfOk result
+        (IsLine (exit_atoms (graph t.now) t.now.printed.now) t.now.system.now.vars t.now.budget) }
+    ensures fault { IfErr result
+        (IsFault t.now.budget (Only (exit_asked t.now.side (graph t.now) t.now.printed.now ∷ []))) }
 {
     let atoms = atoms_of(t, t.system.locs - 1);
     let place = Place::Exit { side: t.side };
     line(alloc, place, atoms, t.system.vars, tableau, t.budget)
 }
 
-/// The side of a certificate: the printed atoms that are handed in, for each live case of the condition the multipliers that show those of
-/// the entry, for each edge whether it is live and the multipliers that show those of its target, and whether the exit is live. Each vector
-/// is that of the outcome of its problem.
+/// The side of a certificate: the printed atoms that are handed in, for each live case of the
+/// condition the multipliers that show those of the entry, for each edge whether it is live and the
+/// multipliers that show those of its target, and whether the exit is live. Each vector is that of
+/// the outcome of its problem.
 ///
 /// # Errors
-/// `Past128` and `Budget` exactly where the first of these problems that does not come to its end has them, with its place. After a refusal
-/// the printed atoms are given up. The tableau is lent as working space and left in no state that is told.
+/// `Past128` and `Budget` exactly where the first of these problems that does not come to its end
+/// has them, with its place. After a refusal the printed atoms are given up. The tableau is lent as
+/// working space and left in no state that is told.
 pub fn keep_proofs<T: Tableau>(
     alloc: Global,
     side: Side,
@@ -298,7 +317,8 @@ pub fn keep_proofs<T: Tableau>(
     requires atoms { AllByRecursion (AllAtoms (IsFullAtom s.now.vars)) printed }
     requires inductive { IsInductive (graph_of s.now) cases.now (family_of printed) }
     ensures answer { IfOk result (TellsKeeps side (graph_of s.now) cases.now live.now printed budget) }
-    ensures fault { IfErr result (IsFault budget (KeepsAsk side (graph_of s.now) printed cases.now live.now)) }
+    ensures fault { IfErr result
+        (IsFault budget (KeepsAsk side (graph_of s.now) printed cases.now live.now)) }
 {
     let lent = Keeping {
         side,

@@ -8,7 +8,8 @@ pub fn pruning_is_one()
     ensures atoms { PrintedAreAtoms }
 {}
 
-/// There is one list of problems that show printed atoms, and one side of a certificate that shows them.
+/// There is one list of problems that show printed atoms, and one side of a certificate that shows
+/// them.
 pub fn keeping_is_one()
     ensures some { HasKeeping }
     ensures one { OneKeeping }

@@ -55,7 +55,8 @@ fn never(alloc: Global, vars: usize) -> Result<Items<Atom>, AllocError>
 
 /// Notes the number of a row, where it is kept.
 fn push_kept(rows: &mut Vec<usize>, row: usize, number: &Option<usize>) -> Result<(), AllocError>
-    ensures { OnOk result (rows.new.items ≡ rows.old.items ++ (if is_some number.now then row ∷ [] else [])) }
+    ensures { OnOk result
+        (rows.new.items ≡ rows.old.items ++ (if is_some number.now then row ∷ [] else [])) }
 {
     if number.is_none() {
         return Ok(());
@@ -209,12 +210,14 @@ fn printed_at<T: Tableau>(
     }
 }
 
-/// The printed atoms of each location of a family: `-1 >= 0` alone where the family has it; else each row that is kept, in order, with its
-/// least bound, of which from the last to the first those are left out that the others still there entail.
+/// The printed atoms of each location of a family: `-1 >= 0` alone where the family has it; else
+/// each row that is kept, in order, with its least bound, of which from the last to the first those
+/// are left out that the others still there entail.
 ///
 /// # Errors
-/// `Past128` and `Budget` exactly where the first problem of pruning that does not come to its end has them, with its place. The tableau is
-/// lent as working space and left in no state that is told.
+/// `Past128` and `Budget` exactly where the first problem of pruning that does not come to its end
+/// has them, with its place. The tableau is lent as working space and left in no state that is
+/// told.
 pub fn prune<T: Tableau>(
     alloc: Global,
     side: Side,
@@ -228,8 +231,11 @@ pub fn prune<T: Tableau>(
     requires kind { AreCandidates s.now.vars c.now }
     requires shape { IsShaped s.now.locs c.now f.now.at }
     requires honest { IsHonest (graph_of s.now) c.now (stands_for s.now.vars c.now f.now.at) }
-    ensures answer { IfOk result (TellsPrinted side (graph_of s.now) c.now (stands_for s.now.vars c.now f.now.at) budget) }
-    ensures fault { IfErr result (IsFault budget (PrunesAsk side c.now (stands_for s.now.vars c.now f.now.at) (graph_of s.now))) }
+    ensures answer { IfOk result
+        (TellsPrinted side (graph_of s.now) c.now (stands_for s.now.vars c.now f.now.at) budget) }
+    ensures fault { IfErr result
+        (IsFault budget (PrunesAsk side c.now (stands_for s.now.vars c.now f.now.at)
+        (graph_of s.now))) }
 {
     let lent = Pruning {
         side,
@@ -251,8 +257,12 @@ fn printed_each<T: Tableau>(
     tableau: &mut T,
 ) -> Result<Items<Items<Atom>>, InvFault>
     requires lent { IsPruning t.now }
-    ensures answer { IfOk result (TellsPrinted t.now.side (graph_of t.now.system.now) t.now.candidates.now (family t.now) t.now.budget) }
-    ensures fault { IfErr result (IsFault t.now.budget (PrunesAsk t.now.side t.now.candidates.now (family t.now) (graph_of t.now.system.now))) }
+    ensures answer { IfOk result
+        (TellsPrinted t.now.side (graph_of t.now.system.now) t.now.candidates.now
+        (family t.now) t.now.budget) }
+    ensures fault { IfErr result
+        (IsFault t.now.budget
+        (PrunesAsk t.now.side t.now.candidates.now (family t.now) (graph_of t.now.system.now))) }
 {
     let mut printed = Items::new(alloc);
     for location in 0..t.system.locs {

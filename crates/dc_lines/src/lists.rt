@@ -16,10 +16,12 @@ pub fn put_fields(alloc: Global, out: &mut Vec<u8>, list: &[i64]) -> Result<(), 
     Ok(())
 }
 
-/// The numbers that stand on a line, each with a space in front and of size at most 2^63 - 1; `None` exactly
-/// where the text is no such list.
+/// The numbers that stand on a line, each with a space in front and of size at most 2^63 - 1;
+/// `None` exactly where the text is no such list.
 pub fn read_fields(alloc: Global, text: &[u8]) -> Result<Option<Vec<i64>>, AllocError>
-    ensures { IfOk result (λ o. MatchOption o ((zs : List ℤ) → AreFields zs → ¬ (fields_text zs ≡ text.now)) (λ v. AreFields v.items × (fields_text v.items ≡ text.now))) }
+    ensures { IfOk result
+        (λ o. MatchOption o ((zs : List ℤ) → AreFields zs → ¬ (fields_text zs ≡ text.now))
+        (λ v. AreFields v.items × (fields_text v.items ≡ text.now))) }
 {
     let mut list = Vec::new(alloc);
     let mut rest = text;

@@ -14,7 +14,8 @@ const MOST_FIELD: u128 = 0x7fff_ffff_ffff_ffff;
 /// The number below 2^127 that a word spells, `None` exactly where it spells none.
 #[tactic(auto, using(crate::proofs::Numerals::reading))]
 pub fn natural(word: &[u8]) -> Option<u128>
-    ensures { MatchOption result ((n : ℕ) → n < 2 ^ 127 → ¬ (decimal n ≡ word.now)) (λ n. (n < 2 ^ 127) × (decimal n ≡ word.now)) }
+    ensures { MatchOption result ((n : ℕ) → n < 2 ^ 127 → ¬ (decimal n ≡ word.now))
+        (λ n. (n < 2 ^ 127) × (decimal n ≡ word.now)) }
 {
     if word.is_empty() {
         return None;
@@ -39,7 +40,9 @@ pub fn natural(word: &[u8]) -> Option<u128>
 /// The whole number of size below 2^127 that a word spells, `None` exactly where it spells none.
 #[tactic(auto, using(crate::proofs::Numerals::wholes))]
 pub fn whole(word: &[u8]) -> Option<i128>
-    ensures { MatchOption result ((z : ℤ) → unsigned_abs z < 2 ^ 127 → ¬ (signed_decimal z ≡ word.now)) (λ z. (unsigned_abs z < 2 ^ 127) × (signed_decimal z ≡ word.now)) }
+    ensures { MatchOption result
+        ((z : ℤ) → unsigned_abs z < 2 ^ 127 → ¬ (signed_decimal z ≡ word.now))
+        (λ z. (unsigned_abs z < 2 ^ 127) × (signed_decimal z ≡ word.now)) }
 {
     match strip(word, b"-") {
         Some(rest) => {
@@ -53,10 +56,13 @@ pub fn whole(word: &[u8]) -> Option<i128>
     }
 }
 
-/// The first field of a text, a space and a whole number of size at most 2^63 - 1, and the text behind it,
-/// which is empty or begins with a space; `None` exactly where no such number stands there.
+/// The first field of a text, a space and a whole number of size at most 2^63 - 1, and the text
+/// behind it, which is empty or begins with a space; `None` exactly where no such number stands
+/// there.
 pub fn next_field(text: &[u8]) -> Option<(i64, &[u8])>
-    ensures { MatchOption result ((z : ℤ) (r : List ℕ) → unsigned_abs z < 2 ^ 63 → Starts 32 r → ¬ (32 ∷ (signed_decimal z ++ r) ≡ text.now))
+    ensures { MatchOption result
+        ((z : ℤ) (r : List ℕ) → unsigned_abs z < 2 ^ 63 → Starts 32 r
+        → ¬ (32 ∷ (signed_decimal z ++ r) ≡ text.now))
         (λ p. (unsigned_abs p.0 < 2 ^ 63) × Starts 32 p.1.now × (32 ∷ (signed_decimal p.0 ++ p.1.now) ≡ text.now)) }
 {
     let Some(inside) = strip(text, b" ") else {

@@ -2,8 +2,8 @@
 ghost use Rattle.std.specs.Prelude.{ℕ, List, ◌∷◌, ◌≡◌, ◌≢◌, ◌++◌, MatchBool, MatchOption};
 ghost use Rattle.dc_lines.specs.Cuts.{Lacks, onward, until};
 
-/// The text up to the first place of a byte, and from there on: all of the text and nothing where the byte
-/// isn't there.
+/// The text up to the first place of a byte, and from there on: all of the text and nothing where
+/// the byte isn't there.
 pub fn cut(text: &[u8], at: u8) -> (&[u8], &[u8])
     ensures front { result.0.now ≡ until at text.now }
     ensures rest { result.1.now ≡ onward at text.now }
@@ -18,7 +18,8 @@ pub fn cut(text: &[u8], at: u8) -> (&[u8], &[u8])
 
 /// What follows a word at the beginning of a text, `None` where the text doesn't begin so.
 pub fn strip<'a>(text: &'a [u8], key: &[u8]) -> Option<&'a [u8]>
-    ensures { MatchOption result ((r : List ℕ) → text.now ≢ key.now ++ r) (λ r. text.now ≡ key.now ++ r.now) }
+    ensures { MatchOption result ((r : List ℕ) → text.now ≢ key.now ++ r)
+        (λ r. text.now ≡ key.now ++ r.now) }
 {
     text.strip_prefix(key)
 }
@@ -30,10 +31,11 @@ pub fn is_same(line: &[u8], text: &[u8]) -> bool
     text == line
 }
 
-/// The first line of a text without its line feed, and what stands behind it; `None` where there is no line
-/// feed.
+/// The first line of a text without its line feed, and what stands behind it; `None` where there is
+/// no line feed.
 pub fn first_line(text: &[u8]) -> Option<(&[u8], &[u8])>
-    ensures { MatchOption result (Lacks 10 text.now) (λ p. Lacks 10 p.0.now × (p.0.now ++ 10 ∷ p.1.now ≡ text.now)) }
+    ensures { MatchOption result (Lacks 10 text.now)
+        (λ p. Lacks 10 p.0.now × (p.0.now ++ 10 ∷ p.1.now ≡ text.now)) }
 {
     let (front, back) = cut(text, b'\n');
     match strip(back, b"\n") {

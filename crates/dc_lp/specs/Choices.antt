@@ -22,8 +22,8 @@ pub record Enters (t : Table ℚ) (i j : ℕ) : Type 0 where
 abbrev pub NoneEnters : Table ℚ → ℕ → Type 0
 NoneEnters t i = (k : ℕ) → k < t.real → NonNegative (at t i k)
 
--- row r of an equation has a positive entry in column j; of the rows that have one, none has a lesser quotient, and none that ties
--- has a lesser basic column
+-- row r of an equation has a positive entry in column j; of the rows that have one, none has a
+-- lesser quotient, and none that ties has a lesser basic column
 pub record Leaves (t : Table ℚ) (j r : ℕ) : Type 0 where
   pub row : r < length t.basis
   pub positive : IsPositiveIn t j r

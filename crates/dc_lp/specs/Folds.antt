@@ -19,7 +19,8 @@ checked fits x = cond fits (Some x) None
 unfoldable pub added : ℚ → ℤ → ℚ → Option ℚ
 added s a x = checked (product_fits (of_ℤ a) x && sum_fits s (of_ℤ a *ℚ x)) (s +ℚ of_ℤ a *ℚ x)
 
--- a 0 * x 0 + .. + a (n - 1) * x (n - 1), added up in rising order from 0, where each product and each partial sum fits
+-- a 0 * x 0 + .. + a (n - 1) * x (n - 1), added up in rising order from 0, where each product and
+-- each partial sum fits
 unfoldable pub folded : ℕ → (ℕ → ℤ) → (ℕ → ℚ) → Option ℚ
 folded zero a x = Some (of_ℤ (pos 0))
 folded (suc n) a x = option_and_then (λ s. added s (a n) (x n)) (folded n a x)
@@ -28,7 +29,8 @@ folded (suc n) a x = option_and_then (λ s. added s (a n) (x n)) (folded n a x)
 unfoldable pub folded_over : (ℕ → Bool) → ℕ → (ℕ → ℤ) → (ℕ → ℚ) → Option ℚ
 folded_over test zero a x = Some (of_ℤ (pos 0))
 folded_over test (suc n) a x =
-    if test n then option_and_then (λ s. added s (a n) (x n)) (folded_over test n a x) else folded_over test n a x
+    if test n then option_and_then (λ s. added s (a n) (x n))
+      (folded_over test n a x) else folded_over test n a x
 
 -- a fold's sum: the sum of the products, and it fits
 pub record IsFitSum (n : ℕ) (a : ℕ → ℤ) (x : ℕ → ℚ) (s : ℚ) : Type 0 where

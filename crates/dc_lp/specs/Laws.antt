@@ -8,7 +8,8 @@ use Rattle.dc_lp.specs.Meanings.{IsPivotPlace, entering, ratio_row, pivoted}
 use Rattle.dc_lp.specs.Choices.{Enters, NoneEnters, Leaves, NoneLeaves, HasApartBasis}
 use Rattle.dc_lp.specs.Fill.{FillIsGaps, fill, entry_count}
 
--- the right side of a dual is below the cost of each solution; where they are equal, no solution costs less
+-- the right side of a dual is below the cost of each solution; where they are equal, no solution
+-- costs less
 abbrev pub WeakDuality : Type 0
 WeakDuality = (p : Linear ℚ) (y : ℕ → ℚ) → IsDual p y → CostAtLeast p (combined_right p y)
 
@@ -50,7 +51,8 @@ NoRowLeaves = (t : Table ℚ) (j : ℕ) → (ratio_row t j ≡ None) ↔ NoneLea
 abbrev pub SumsFit : Type 0
 SumsFit = (n : ℕ) (a : ℕ → ℤ) (x : ℕ → ℚ) (s : ℚ) → folded n a x ≡ Some s → IsFitSum n a x s
 
--- where every index that doesn't pass has a coefficient or a number that is 0, the fold over the others is the whole fold, or neither fits
+-- where every index that doesn't pass has a coefficient or a number that is 0, the fold over the
+-- others is the whole fold, or neither fits
 abbrev pub LeavesOut : Type 0
 LeavesOut = (test : ℕ → Bool) (n : ℕ) (a : ℕ → ℤ) (x : ℕ → ℚ)
     → ((k : ℕ) → k < n → test k ≡ false → (a k ≡ pos 0) ⊎ (x k ≡ of_ℤ (pos 0)))

@@ -1,4 +1,5 @@
--- What a tableau is for a contract: a table of rational numbers and its state. What must fit 128 bits in a pivot.
+-- What a tableau is for a contract: a table of rational numbers and its state. What must fit 128
+-- bits in a pivot.
 use Rattle.std.specs.Prelude.{◌≡◌, ℕ, zero, suc, ◌<◌, Bool, true, false, not, ◌&&◌, ◌||◌, ◌==◌, length, Option, Some, None, Result, Ok, Err, cond}
 use Rattle.dc_math.specs.Rational.{ℚ, ◌*ℚ◌}
 use Rattle.dc_math.specs.RationalField.{rationals}
@@ -52,7 +53,8 @@ abbrev pub all_below : ℕ → (ℕ → Bool) → Bool
 all_below zero test = true
 all_below (suc n) test = all_below n test && test n
 
--- before column j enters: the quotient of right side by entry in each row of the equations with a positive entry in column j
+-- before column j enters: the quotient of right side by entry in each row of the equations with a
+-- positive entry in column j
 unfoldable pub ratios_fit : Table ℚ → ℕ → Bool
 ratios_fit t j = all_below (length t.basis) (λ i. not (is_positive (at t i j))
     || quotient_fits (at t i (right t)) (at t i j))
@@ -61,7 +63,8 @@ ratios_fit t j = all_below (length t.basis) (λ i. not (is_positive (at t i j))
 unfoldable pub division_fits : Table ℚ → ℕ → ℕ → Bool
 division_fits t r j = all_below (width t) (λ k. quotient_fits (at t r k) (at t r j))
 
--- in another row i with an entry in column j: for each column but j whose new entry in row r isn't 0, the product and the difference
+-- in another row i with an entry in column j: for each column but j whose new entry in row r isn't
+-- 0, the product and the difference
 unfoldable pub reduction_fits : Table ℚ → ℕ → ℕ → ℕ → Bool
 reduction_fits t r j i = is_zero (at t i j) || all_below (width t) (λ k.
     k == j || is_zero (divided t r j k)
@@ -72,7 +75,8 @@ unfoldable pub pivot_fits : Table ℚ → ℕ → ℕ → Bool
 pivot_fits t r j = division_fits t r j && all_below (height t) (λ i. i == r || reduction_fits t r j i)
 
 -- ---- a tableau
--- what it holds, whether it holds anything, whether a pivot left it half done, and the place for which it has room
+-- what it holds, whether it holds anything, whether a pivot left it half done, and the place for
+-- which it has room
 pub record Meaning : Type 0 where
   pub loaded : Bool
   pub broken : Bool

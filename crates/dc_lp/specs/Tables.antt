@@ -1,6 +1,8 @@
--- The table of the simplex method and its pivot, over any ordered field: the start, what enters and leaves, and what a pivot makes.
--- With m equations in n unknowns, columns 0 to n - 1 are real, columns n to n + m - 1 are artificial, one for each equation, and
--- column n + m is the right side. Rows 0 to m - 1 are the equations, row m is the cost row of phase one and row m + 1 that of phase two.
+-- The table of the simplex method and its pivot, over any ordered field: the start, what enters and
+-- leaves, and what a pivot makes. With m equations in n unknowns, columns 0 to n - 1 are real,
+-- columns n to n + m - 1 are artificial, one for each equation, and column n + m is the right side.
+-- Rows 0 to m - 1 are the equations, row m is the cost row of phase one and row m + 1 that of phase
+-- two.
 use Rattle.std.specs.Prelude.{ℕ, zero, suc, ◌+◌, Bool, not, ◌&&◌, ◌||◌, cond, List, [], map, length, slice_index, slice_index_or, slice_set, Option, Some, None, nat_lt, ◌==◌, if◌then◌else◌}
 use Rattle.std.specs.List.{range_with_len}
 use Rattle.std.specs.Option.{option_map, option_or}
@@ -8,7 +10,8 @@ use Rattle.dc_math.specs.Field.{Field, minus}
 use Rattle.dc_lp.specs.Linear.{Linear}
 use Rattle.dc_lp.specs.Folds.{checked}
 
--- rows of numbers, of which the last two are the cost rows; which column is basic in each row; how many columns are real
+-- rows of numbers, of which the last two are the cost rows; which column is basic in each row; how
+-- many columns are real
 pub record Table (Q : Type 0) : Type 0 where
   pub real : ℕ
   pub rows : List (List Q)
@@ -113,7 +116,8 @@ module _ (Q : Type 0) (F : Field Q) where
   -- of the rows 0 to n - 1 with a positive entry in column j, the one that goes before the others
   abbrev pub best_below : Table Q → ℕ → ℕ → Option ℕ
   best_below t j zero = None
-  best_below t j (suc i) = if is_positive (at t i j) then better t j i (best_below t j i) else best_below t j i
+  best_below t j (suc i) =
+      if is_positive (at t i j) then better t j i (best_below t j i) else best_below t j i
 
   unfoldable pub ratio_row : Table Q → ℕ → Option ℕ
   ratio_row t j = best_below t j (length t.basis)
@@ -132,7 +136,8 @@ module _ (Q : Type 0) (F : Field Q) where
   unfoldable pub drive_place : Table Q → Option (ℕ × ℕ)
   drive_place t = first_some (place_in t) (length t.basis)
 
-  -- A pivot divides row r by its entry in column j, and takes the other rows' entries there times the new row from them.
+  -- A pivot divides row r by its entry in column j, and takes the other rows' entries there times
+  -- the new row from them.
 
   abbrev pub divided : Table Q → ℕ → ℕ → ℕ → Q
   divided t r j k = quotient (at t r k) (at t r j)

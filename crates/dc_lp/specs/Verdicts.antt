@@ -1,4 +1,5 @@
--- The tests of the four checkers, by number. A test is true or false, or None where its fold doesn't fit.
+-- The tests of the four checkers, by number. A test is true or false, or None where its fold
+-- doesn't fit.
 use Rattle.std.specs.Prelude.{◌≡◌, ℕ, ◌+◌, ◌-◌, ◌<◌, ℤ, pos, Bool, true, false, nat_lt, if◌then◌else◌, length, Option, Some, None}
 use Rattle.std.specs.Option.{option_map, option_and_then}
 use Rattle.dc_math.specs.Rational.{ℚ, of_ℤ, le_ℚ}
@@ -60,13 +61,18 @@ value_test p x y = option_and_then (λ s. option_map (λ t. eq_ℚ s t) (right_f
 
 -- ---- by number
 abbrev pub primal_test : Problem → (ℕ → ℚ) → ℕ → Option Bool
-primal_test p x k = if nat_lt k (columns p) then sign_test x k else equation_test p x (whole_at p.b.items (k - columns p)) (k - columns p)
+primal_test p x k =
+    if nat_lt k (columns p) then sign_test x k else equation_test p x
+    (whole_at p.b.items (k - columns p)) (k - columns p)
 
 abbrev pub dual_test : Problem → (ℕ → ℚ) → (ℕ → ℚ) → ℕ → Option Bool
-dual_test p x y k = if nat_lt k (columns p) then price_test p y (whole_at p.cost.items k) k else value_test p x y
+dual_test p x y k =
+    if nat_lt k (columns p) then price_test p y (whole_at p.cost.items k) k else value_test p x y
 
 abbrev pub refutation_test : Problem → (ℕ → ℚ) → ℕ → Option Bool
-refutation_test p y k = if nat_lt k (columns p) then price_test p y (pos 0) k else option_map is_positive (right_fold p y)
+refutation_test p y k =
+    if nat_lt k (columns p) then price_test p y (pos 0) k else option_map is_positive
+    (right_fold p y)
 
 abbrev pub ray_test : Problem → (ℕ → ℚ) → ℕ → Option Bool
 ray_test p r k =

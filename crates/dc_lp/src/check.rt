@@ -20,7 +20,8 @@ use std::cmp::Ordering;
 pub fn check_primal(p: &Problem, x: &[Frac]) -> Verdict
     requires well_formed { IsWellFormed p.now }
     requires length { length x.now ≡ columns p.now }
-    ensures verdict { IsVerdict (columns p.now + p.now.rows) (primal_test p.now (numbers x.now)) result }
+    ensures verdict { IsVerdict (columns p.now + p.now.rows)
+        (primal_test p.now (numbers x.now)) result }
     ensures solution { result ≡ Verdict.Holds → IsSolution (linear_of p.now) (numbers x.now) }
 {
     let columns = p.columns.len();
@@ -39,13 +40,14 @@ pub fn check_primal(p: &Problem, x: &[Frac]) -> Verdict
     Verdict::Holds
 }
 
-/// Whether `y` is a dual whose right side is the cost of `x`: tests `y * A_j <= cost_j` for each column, then `cost * x = y * b`.
-/// Where it holds, no solution costs less than `x` does.
+/// Whether `y` is a dual whose right side is the cost of `x`: tests `y * A_j <= cost_j` for each
+/// column, then `cost * x = y * b`. Where it holds, no solution costs less than `x` does.
 pub fn check_dual(p: &Problem, x: &[Frac], y: &[Frac]) -> Verdict
     requires well_formed { IsWellFormed p.now }
     requires x_length { length x.now ≡ columns p.now }
     requires y_length { length y.now ≡ p.now.rows }
-    ensures verdict { IsVerdict (columns p.now + 1) (dual_test p.now (numbers x.now) (numbers y.now)) result }
+    ensures verdict { IsVerdict (columns p.now + 1)
+        (dual_test p.now (numbers x.now) (numbers y.now)) result }
     ensures dual { result ≡ Verdict.Holds → IsDual (linear_of p.now) (numbers y.now) }
     ensures value { result ≡ Verdict.Holds
         → cost_of (linear_of p.now) (numbers x.now) ≡ combined_right (linear_of p.now) (numbers y.now) }
@@ -80,12 +82,13 @@ pub fn check_refutation(p: &Problem, y: &[Frac]) -> Verdict
     judge(p.columns.len(), right_is_positive(p, y))
 }
 
-/// Whether `r` is a ray: tests `r[j] >= 0` for each column, each equation with right side 0, then `cost * r < 0`.
-/// Where it holds, the cost falls below every bound from each solution on.
+/// Whether `r` is a ray: tests `r[j] >= 0` for each column, each equation with right side 0, then
+/// `cost * r < 0`. Where it holds, the cost falls below every bound from each solution on.
 pub fn check_ray(p: &Problem, r: &[Frac]) -> Verdict
     requires well_formed { IsWellFormed p.now }
     requires length { length r.now ≡ columns p.now }
-    ensures verdict { IsVerdict (columns p.now + p.now.rows + 1) (ray_test p.now (numbers r.now)) result }
+    ensures verdict { IsVerdict (columns p.now + p.now.rows + 1)
+        (ray_test p.now (numbers r.now)) result }
     ensures ray { result ≡ Verdict.Holds → IsRay (linear_of p.now) (numbers r.now) }
     ensures goes_on { result ≡ Verdict.Holds → HasNoBound (linear_of p.now) }
 {

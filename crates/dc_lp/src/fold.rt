@@ -28,7 +28,8 @@ pub fn left_sum(p: &Problem, x: &[Frac], row: usize) -> Option<Frac>
 /// A column's price under `y`; `None` exactly where it doesn't fit.
 pub fn price(column: &[Entry], y: &[Frac]) -> Option<Frac>
     requires { IsColumn (length y.now) column.now }
-    ensures { option_map value result ≡ folded (length y.now) (coefficient_in column.now) (numbers y.now) }
+    ensures { option_map value result
+        ≡ folded (length y.now) (coefficient_in column.now) (numbers y.now) }
 {
     let mut sum = Frac::whole(0);
     for e in column {

@@ -1,8 +1,8 @@
-//! Linear problems in exact numbers: what a solution, a dual, a refutation and a ray are, what they show, checkers for them,
-//! and what a tableau is.
+//! Linear problems in exact numbers: what a solution, a dual, a refutation and a ray are, what they
+//! show, checkers for them, and what a tableau is.
 //!
-//! The definitions are the usual ones (Schrijver, Theory of Linear and Integer Programming, chapters 7 and 11).
-//! No call of the checkers takes memory.
+//! The definitions are the usual ones (Schrijver, Theory of Linear and Integer Programming,
+//! chapters 7 and 11). No call of the checkers takes memory.
 #![tactic(auto)]
 
 mod check;
@@ -24,8 +24,9 @@ pub struct Entry {
 
 /// The least `cost * x` with `A x = b` and `x >= 0`, where A is given by its columns.
 ///
-/// It is well formed where each column's rows rise and stay below `rows`, values aren't 0, there is one cost for each column and
-/// one `b` for each row, and the sum of sizes of each column, that of `b` and the size of each cost are at most 2^127 - 1.
+/// It is well formed where each column's rows rise and stay below `rows`, values aren't 0, there is
+/// one cost for each column and one `b` for each row, and the sum of sizes of each column, that of
+/// `b` and the size of each cost are at most 2^127 - 1.
 #[derive(Drop)]
 pub struct Problem {
     pub rows: usize,

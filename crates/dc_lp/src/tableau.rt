@@ -20,11 +20,13 @@ pub struct PastQuotient;
 #[error("a value of a pivot passes 128 bits")]
 pub struct PastPivot;
 
-/// A table of fractions for the simplex method with Bland's rule (R. G. Bland, New finite pivoting rules for the simplex method, 1977).
+/// A table of fractions for the simplex method with Bland's rule (R. G. Bland, New finite pivoting
+/// rules for the simplex method, 1977).
 ///
-/// With m equations in n unknowns there are the rows 0 to m - 1 of the equations, the row m of phase one and the row m + 1 of
-/// phase two; the n real columns are followed by m artificial columns and the right side.
-/// Every call but `load` requires a tableau that is loaded and that no pivot broke.
+/// With m equations in n unknowns there are the rows 0 to m - 1 of the equations, the row m of
+/// phase one and the row m + 1 of phase two; the n real columns are followed by m artificial
+/// columns and the right side. Every call but `load` requires a tableau that is loaded and that no
+/// pivot broke.
 pub trait Tableau {
     ghost meaning: { Self → Meaning };
 
@@ -53,8 +55,9 @@ pub trait Tableau {
         requires row { cost_row < height (meaning self.now).table }
         ensures { result ≡ entering (meaning self.now).table cost_row };
 
-    /// Of the equations' rows with a positive entry in a column, the one whose quotient of right side by entry is least,
-    /// ties by the least basic column; `None` exactly where no entry is positive.
+    /// Of the equations' rows with a positive entry in a column, the one whose quotient of right
+    /// side by entry is least, ties by the least basic column; `None` exactly where no entry is
+    /// positive.
     ///
     /// # Errors
     /// `PastQuotient` exactly where one of the quotients doesn't fit.
@@ -63,7 +66,8 @@ pub trait Tableau {
         requires column { col < width (meaning self.now).table }
         ensures { result ≡ ratio_answer (meaning self.now).table col };
 
-    /// Makes room for the pivot at a place. It changes nothing else, and nothing at all after a refusal.
+    /// Makes room for the pivot at a place. It changes nothing else, and nothing at all after a
+    /// refusal.
     fn room(&mut self, row: usize, col: usize) -> Result<(), AllocError>
         requires usable { IsUsable (meaning self.old) }
         requires place { IsPivotPlace (meaning self.old).table row col }
@@ -73,8 +77,8 @@ pub trait Tableau {
     /// Makes the pivot at the place for which there is room. It takes no memory.
     ///
     /// # Errors
-    /// `PastPivot` exactly where a quotient, product or difference of the pivot doesn't fit. The tableau is broken then until
-    /// it is loaded again.
+    /// `PastPivot` exactly where a quotient, product or difference of the pivot doesn't fit. The
+    /// tableau is broken then until it is loaded again.
     fn pivot(&mut self, row: usize, col: usize) -> Result<(), PastPivot>
         requires ready { meaning self.old ≡ ready_at (meaning self.old).table row col }
         requires place { IsPivotPlace (meaning self.old).table row col }

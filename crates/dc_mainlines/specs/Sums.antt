@@ -34,7 +34,8 @@ abbrev pub with_entry : Option ℚ → List Entry → ℕ → ℚ → Option ℚ
 with_entry s [] i x = s
 with_entry s (e ∷ es) i x = cond (eqb e.row i) (with_term s e.value x) (with_entry s es i x)
 
--- with the entries of a vector's columns more, each times its value; item k belongs to short column start + k
+-- with the entries of a vector's columns more, each times its value; item k belongs to short column
+-- start + k
 abbrev pub with_items : Problem → ℕ → ℕ → ℕ → Option ℚ → List Item → Option ℚ
 with_items p u start i s [] = s
 with_items p u start i s (k ∷ ks) =
@@ -53,7 +54,8 @@ short_columns p u = length p.columns.items - u
 -- a column's price under y: that of an unknown is its cost, that of a multiplier at most 0
 abbrev pub priced : Linear ℤ → ℕ → (ℕ → ℤ) → (ℕ → ℚ) → ℕ → Test
 priced m u cost y k =
-    if ltb k u then is (folded m.equations (λ i. short_coefficient m u i k) y) (cost (short_column m u k))
+    if ltb k u then is (folded m.equations (λ i. short_coefficient m u i k) y)
+      (cost (short_column m u k))
     else is_at_most (folded m.equations (λ i. short_coefficient m u i k) y) (pos 0)
 
 -- a row's sum is the number on the right

@@ -211,7 +211,8 @@ fn vacuous_failure(
     requires unknown_range { in_range unknowns unknown.now ≡ true }
     requires lambda_range { in_range (multipliers (whole_problem p.now) unknowns) lambda.now ≡ true }
     requires ray_unknown_range { in_range unknowns ray_unknown.now ≡ true }
-    requires ray_lambda_range { in_range (multipliers (whole_problem p.now) unknowns) ray_lambda.now ≡ true }
+    requires ray_lambda_range { in_range (multipliers (whole_problem p.now) unknowns) ray_lambda.now
+        ≡ true }
     ensures { IfOk result (λ step. step ≡ first_failure (later_steps (whole_problem p.now) unknowns
         (Vacuous unknown.now lambda.now ray_unknown.now ray_lambda.now))) }
 {
@@ -234,11 +235,12 @@ fn vacuous_failure(
     ))
 }
 
-/// The first step of clauses 7 to 13 that doesn't hold of what a certificate claims, `None` where all do.
+/// The first step of clauses 7 to 13 that doesn't hold of what a certificate claims, `None` where
+/// all do.
 ///
-/// Of the problem's columns the first `unknowns * 2` belong to the unknowns, a plus and a minus each. Besides
-/// the time for its sums it takes time in proportion to the problem and the certificate, and one number for
-/// each equation.
+/// Of the problem's columns the first `unknowns * 2` belong to the unknowns, a plus and a minus
+/// each. Besides the time for its sums it takes time in proportion to the problem and the
+/// certificate, and one number for each equation.
 ///
 /// # Errors
 /// Want of memory.

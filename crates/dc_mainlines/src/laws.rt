@@ -1,8 +1,9 @@
 //! What the clauses show. Each function has no code: what it ensures is the law.
 ghost use Rattle.dc_mainlines.specs.Laws.{MainProblemsArePaired, ProblemsAreWhole, StepsShow, StepsShowClaims};
 
-/// Where the clauses hold of a certificate's vectors, a problem whose unknowns have two columns each has a
-/// solution of least cost at the threshold, or no solution, or solutions whose costs have no bound.
+/// Where the clauses hold of a certificate's vectors, a problem whose unknowns have two columns
+/// each has a solution of least cost at the threshold, or no solution, or solutions whose costs
+/// have no bound.
 pub fn clauses_show()
     ensures { StepsShow }
 {}

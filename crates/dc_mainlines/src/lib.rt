@@ -1,5 +1,5 @@
-//! The main problem's part of a certificate: the first of its clauses that doesn't hold, and what they show.
-//! It stands on no solver.
+//! The main problem's part of a certificate: the first of its clauses that doesn't hold, and what
+//! they show. It stands on no solver.
 #![tactic(auto)]
 
 mod body;

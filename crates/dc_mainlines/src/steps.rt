@@ -86,8 +86,8 @@ fn is_within(sum: &Frac, number: &i128) -> bool
     }
 }
 
-/// Whether a column's price under `y` is right: that of an unknown its cost, that of a multiplier at most 0.
-/// None where it doesn't fit.
+/// Whether a column's price under `y` is right: that of an unknown its cost, that of a multiplier
+/// at most 0. None where it doesn't fit.
 fn is_priced(p: &Problem, unknowns: usize, costs: &[i128], y: &[Frac], k: usize) -> Option<bool>
     requires well_formed { IsWellFormed p.now }
     requires length { length y.now ≡ p.now.rows }

@@ -43,7 +43,8 @@ fn add_column(sums: &mut [Option<Frac>], column: &[Entry], x: Frac)
     }
 }
 
-/// Adds the columns of a vector's items, each times its value. Item k belongs to the column for `start + k`.
+/// Adds the columns of a vector's items, each times its value. Item k belongs to the column for
+/// `start + k`.
 fn add_items(sums: &mut [Option<Frac>], p: &Problem, unknowns: usize, items: &[Item], start: usize)
     requires well_formed { IsWellFormed p.now }
     requires rows { length sums.old ≡ p.now.rows }

@@ -267,7 +267,8 @@ fn thresholds_of_two_unknowns(rt: HostRuntime) -> Result<(), Fail> {
             dual: &[one, Frac::whole(-MAX)],
             told: Some((10, 1, None)),
         },
-        // with m = 1 a solution costs 4, which is unknown 0 and not the product of the dual with the right sides
+        // with m = 1 a solution costs 4, which is unknown 0 and not the product of the dual with
+        // the right sides
         Threshold {
             t: four,
             unknown: &[four, two],

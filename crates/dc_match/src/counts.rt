@@ -46,15 +46,17 @@ pub fn column_count(programs: &Programs, duties: &[Duty], degree: u8, products: 
     count
 }
 
-/// The equations of some duties. A count past 64 bits is told as want of memory: no machine holds so many
-/// monomials.
+/// The equations of some duties. A count past 64 bits is told as want of memory: no machine holds
+/// so many monomials.
 pub fn equation_count(alloc: Global, task: &Task, duties: &[Duty]) -> Result<u64, AllocError>
     requires task { IsTask task.now }
     requires there { All (IsThere (lent task.now.programs.now)) duties.now }
-    requires few { All (λ o. products_count (lent task.now.programs.now) task.now.products o ≤ 8192) duties.now }
+    requires few { All (λ o. products_count
+        (lent task.now.programs.now) task.now.products o ≤ 8192) duties.now }
     ensures { IfOk result
         (λ n. n
-        ≡ length (equations_in (lent task.now.programs.now) task.now.degree task.now.products duties.now)) }
+        ≡ length (equations_in
+        (lent task.now.programs.now) task.now.degree task.now.products duties.now)) }
 {
     let mut count: u64 = 0;
     for duty in duties {

@@ -45,7 +45,8 @@ pub fn problem_of(
     degree: u8,
     products: u8,
 ) -> Result<Problem, MatchFault>
-    requires fit { IsFit (pair_of new.now old.now cases.now) degree products (flags_of new.now old.now live.now) }
+    requires fit { IsFit (pair_of new.now old.now cases.now) degree products
+        (flags_of new.now old.now live.now) }
     ensures problem { IfOk result
         (λ p. linear_of p
         ≡ rational
@@ -76,7 +77,8 @@ pub fn problem_of(
 fn filled(alloc: Global, task: &Task, duties: &[Duty]) -> Result<Table, MatchFault>
     requires task { IsTask task.now }
     requires there { All (IsThere (lent task.now.programs.now)) duties.now }
-    requires few { All (λ o. products_count (lent task.now.programs.now) task.now.products o ≤ 8192) duties.now }
+    requires few { All (λ o. products_count
+        (lent task.now.programs.now) task.now.products o ≤ 8192) duties.now }
     ensures ok { IfOk result
         (IsFilled (lent task.now.programs.now) task.now.degree task.now.products duties.now) }
     ensures err { IfErr result
@@ -104,7 +106,8 @@ fn filled(alloc: Global, task: &Task, duties: &[Duty]) -> Result<Table, MatchFau
 fn too_many(alloc: Global, task: &Task, duties: &[Duty]) -> MatchFault
     requires task { IsTask task.now }
     requires there { All (IsThere (lent task.now.programs.now)) duties.now }
-    requires few { All (λ o. products_count (lent task.now.programs.now) task.now.products o ≤ 8192) duties.now }
+    requires few { All (λ o. products_count
+        (lent task.now.programs.now) task.now.products o ≤ 8192) duties.now }
     ensures { (result ≡ NoMemory)
         ⊎ (result
         ≡ TooLarge count.Equations

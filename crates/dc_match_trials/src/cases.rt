@@ -50,8 +50,8 @@ fn ask(alloc: Global, count: usize) -> Result<Problem, MatchFault>
     problem_of(alloc, &plan, &plan, cases.as_slice(), live.as_slice(), 3, 1)
 }
 
-// C(13, 3) = 286 monomials of degree at most 3 over ten places, at two exits and for each case: seven times
-// these are 2,002 equations, eight times 2,288
+// C(13, 3) = 286 monomials of degree at most 3 over ten places, at two exits and for each case:
+// seven times these are 2,002 equations, eight times 2,288
 #[test]
 fn too_many_equations(rt: HostRuntime) -> Result<(), Fail> {
     let p = ask(rt.alloc(), 5)?;

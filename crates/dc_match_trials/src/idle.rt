@@ -12,8 +12,9 @@ use sqlite_items::Items;
 use std::alloc::{AllocError, Global};
 use std::test::Fail;
 
-// The variables of new and of old, their parameters, how often the atom "the first place is at least 0" stands at new's exit, and whether
-// the condition's only case, which has no atoms, is live.
+// The variables of new and of old, their parameters, how often the atom "the first place is at
+// least 0" stands at new's exit, and whether the condition's only case, which has no atoms, is
+// live.
 #[derive(Clone, Copy)]
 struct Shape {
     new_vars: usize,

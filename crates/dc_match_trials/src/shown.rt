@@ -16,8 +16,8 @@ fn is_opposite(column: &[Entry], entries: &[(usize, i128)]) -> bool {
             && entry.value == pair.1.wrapping_neg())
 }
 
-/// Asserts what a problem is: the plus columns of its unknowns, which the minus columns oppose, the columns
-/// of its multipliers, and its right side; the first unknown costs itself.
+/// Asserts what a problem is: the plus columns of its unknowns, which the minus columns oppose, the
+/// columns of its multipliers, and its right side; the first unknown costs itself.
 pub fn assert_is(
     rt: &impl Abort,
     p: &Problem,

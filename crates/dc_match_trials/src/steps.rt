@@ -1,4 +1,5 @@
-//! A pair of programs of one step: from the entry to the exit where n is at least 0, at cost n, n becomes n + 1.
+//! A pair of programs of one step: from the entry to the exit where n is at least 0, at cost n, n
+//! becomes n + 1.
 ghost use Rattle.std.specs.Prelude.{◌≡◌, length, IfOk};
 ghost use Rattle.dc_system.specs.Shapes.{IsEdge, IsWellFormed, IsWithin};
 

@@ -1,4 +1,5 @@
--- What it is to leave out the chosen value of an edge that chooses none, and to ask for a form after an edge.
+-- What it is to leave out the chosen value of an edge that chooses none, and to ask for a form
+-- after an edge.
 use Rattle.std.specs.Prelude.{◌≡◌, ◌↔◌, ℕ, ◌≤◌, ◌<◌, ◌^◌, List, ◌++◌, length, sum_by, unsigned_abs, ℤ}
 use Rattle.dc_math.specs.Rational.{of_ℤ}
 use Rattle.dc_affine.specs.declared.atom.Atom.{Atom}
@@ -14,7 +15,9 @@ use Rattle.dc_moves.specs.Cuts.{with_guard}
 -- ---- the guard at the places of its edge
 -- it makes the same problems
 abbrev pub CutsAskTheSame : Type 0
-CutsAskTheSame = (n : ℕ) (atoms : List Atom) (e : Edge) → empty_problem (with_guard n atoms e) n ≡ empty_problem (atoms ++ e.guard) n
+CutsAskTheSame =
+    (n : ℕ) (atoms : List Atom) (e : Edge)
+    → empty_problem (with_guard n atoms e) n ≡ empty_problem (atoms ++ e.guard) n
 
 abbrev pub CutsAskTheSameForms : Type 0
 CutsAskTheSameForms = (atoms : List Atom) (e : Edge) (form : List ℤ)
@@ -42,4 +45,5 @@ FormsAreLight = (n : ℕ) (e : Edge) (row : List ℤ) → n ≤ 10 → IsEdge n 
 -- an atom after the edge is entailed exactly where the form of its coefficients is from its constant on
 abbrev pub FormsTellAtoms : Type 0
 FormsTellAtoms = (n : ℕ) (e : Edge) (hyps : List Atom) (a : Atom) → IsEdge n e
-    → Entails hyps (atom_after n e a) ↔ EntailsFrom hyps (form_after n e a.coefs) (of_ℤ ((atom_after n e a).c0))
+    → Entails hyps (atom_after n e a)
+      ↔ EntailsFrom hyps (form_after n e a.coefs) (of_ℤ ((atom_after n e a).c0))

@@ -9,7 +9,8 @@ pub fn guards_keep_their_meaning()
     ensures atoms { CutsAreAtoms }
 {}
 
-/// A form after an edge has a coefficient for each place of the edge, and tells where an atom after the edge is entailed.
+/// A form after an edge has a coefficient for each place of the edge, and tells where an atom after
+/// the edge is entailed.
 pub fn forms_tell_atoms()
     ensures places { FormsHavePlaces }
     ensures light { FormsAreLight }

@@ -57,8 +57,9 @@ fn cut(alloc: Global, atom: &Atom, places: usize) -> Result<Atom, AllocError>
     bounded(alloc, &coefs[..count], atom.c0)
 }
 
-/// Atoms, and behind them the guard of an edge at so many places: an edge that chooses no value speaks over the variables alone, though
-/// its guard may have a coefficient, of 0, for the chosen value.
+/// Atoms, and behind them the guard of an edge at so many places: an edge that chooses no value
+/// speaks over the variables alone, though its guard may have a coefficient, of 0, for the chosen
+/// value.
 pub fn with_guard(
     alloc: Global,
     mut atoms: Vec<Atom>,

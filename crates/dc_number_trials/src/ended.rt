@@ -27,7 +27,8 @@ fn counts(rt: HostRuntime) {
     assert_eq!(rt; bases(40, 100), None);
 }
 
-// 3 * x0 + 5 * x1 = 1 with costs 7 and 0; x0 = 1 and 2 * x0 = 2 with cost 1; and a problem whose first pivot doesn't fit
+// 3 * x0 + 5 * x1 = 1 with costs 7 and 0; x0 = 1 and 2 * x0 = 2 with cost 1; and a problem whose
+// first pivot doesn't fit
 #[test]
 fn ends(rt: HostRuntime) -> Result<(), Fail> {
     let two = problem(rt.alloc(), &[&[at(0, 3)], &[at(0, 5)]], &[1], &[7, 0])?;

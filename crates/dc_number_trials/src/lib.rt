@@ -1,5 +1,6 @@
-//! Tests of the exact numbers, the problems and the solver. The crate has no function of its own; expected values were worked out by hand,
-//! and those of the solver's longer runs by a table of fractions kept apart from this program.
+//! Tests of the exact numbers, the problems and the solver. The crate has no function of its own;
+//! expected values were worked out by hand, and those of the solver's longer runs by a table of
+//! fractions kept apart from this program.
 #![tactic(auto)]
 
 #[cfg(test)]

@@ -1,5 +1,5 @@
-//! Small problems over the dense tableau. Expected answers were worked out by hand or, for the longer runs, by a table of fractions kept
-//! apart from this program.
+//! Small problems over the dense tableau. Expected answers were worked out by hand or, for the
+//! longer runs, by a table of fractions kept apart from this program.
 use crate::tables::{at, problem};
 use dc_frac::Frac;
 use dc_lp::{Entry, Problem};
@@ -76,8 +76,8 @@ fn budgets(rt: HostRuntime) -> Result<(), Fail> {
     Ok(())
 }
 
-// (2^100 + 1) * x0 + (2^100 + 3) * x1 = 1 with costs 2^100 + 5 and 0: the values of the first pivot pass 128 bits, which is seen where
-// the budget lets it be made
+// (2^100 + 1) * x0 + (2^100 + 3) * x1 = 1 with costs 2^100 + 5 and 0: the values of the first pivot
+// pass 128 bits, which is seen where the budget lets it be made
 #[test]
 fn too_wide(rt: HostRuntime) -> Result<(), Fail> {
     let wide = 1_267_650_600_228_229_401_496_703_205_376;
@@ -126,8 +126,8 @@ fn without_an_optimum(rt: HostRuntime) -> Result<(), Fail> {
     Ok(())
 }
 
-// x0 = 1 and 2 * x0 = 2, where the rows tie and a row of zeros is left; -x0 = 0, which drive-out alone brings into the basis; three
-// equations of which the third is the sum of the others
+// x0 = 1 and 2 * x0 = 2, where the rows tie and a row of zeros is left; -x0 = 0, which drive-out
+// alone brings into the basis; three equations of which the third is the sum of the others
 #[test]
 fn redundant_equations(rt: HostRuntime) -> Result<(), Fail> {
     let [zero, one, two, less] = [
@@ -180,8 +180,8 @@ fn redundant_equations(rt: HostRuntime) -> Result<(), Fail> {
     Ok(())
 }
 
-// Beale's problem in whole numbers, which goes round in a circle where the most negative column enters (E. M. L. Beale, Cycling in the
-// dual simplex algorithm, 1955)
+// Beale's problem in whole numbers, which goes round in a circle where the most negative column
+// enters (E. M. L. Beale, Cycling in the dual simplex algorithm, 1955)
 #[test]
 fn circles(rt: HostRuntime) -> Result<(), Fail> {
     let columns: [&[Entry]; 7] = [

@@ -21,4 +21,5 @@ ConditionOutcome names text = IsOutcome cond (judge_condition names text) text
 -- a refusal with its line and column: want of memory stands at 0:0, each other at the place of its byte
 abbrev pub IsRefusal : {A : Type 0} → (Outcome A → Type 0) → List ℕ → ℕ → ℕ → Kind → Type 0
 IsRefusal Of text line col k.NoMemory = (line ≡ 0) × (col ≡ 0)
-IsRefusal Of text line col kind = (at : ℕ) × Of (refuses (fault kind at)) × (line ≡ line_at text at) × (col ≡ column_at text at)
+IsRefusal Of text line col kind =
+    (at : ℕ) × Of (refuses (fault kind at)) × (line ≡ line_at text at) × (col ≡ column_at text at)

@@ -1,5 +1,5 @@
--- What is wrong first in a text, over all phases, by the kind of the fault and the place of its byte. The faults of the tokens and of the names are those
--- that the descent tells.
+-- What is wrong first in a text, over all phases, by the kind of the fault and the place of its
+-- byte. The faults of the tokens and of the names are those that the descent tells.
 use Rattle.std.specs.Prelude.{ℕ, List}
 use Rattle.std.specs.declared.option.Option.{Option}
 use Rattle.std.specs.Option.{option_map}

@@ -20,14 +20,21 @@ use Rattle.dc_parse.specs.Forms.{all_faults, first_form, form_kind}
 
 -- the procedure that a source says
 abbrev pub proc_of : List ℕ → Parts → Proc
-proc_of text p = record { name = spelled text p.name; names = names_of text p; params = length p.params; body = body_of text p }
+proc_of text p = record {
+  name = spelled text p.name;
+  names = names_of text p;
+  params = length p.params;
+  body = body_of text p;
+}
 
 -- the first fault of its forms and conditions, over its names
 abbrev pub forms_fault : List ℕ → Parts → Option Fault
-forms_fault text p = first_form (starts_of p.body) (all_faults (length (names_of text p)) (body_of text p))
+forms_fault text p =
+    first_form (starts_of p.body) (all_faults (length (names_of text p)) (body_of text p))
 
 abbrev pub judge_parts : List ℕ → Parts → Outcome Proc
-judge_parts text p = first_of (names_fault text p) (first_of (forms_fault text p) (says (proc_of text p)))
+judge_parts text p =
+    first_of (names_fault text p) (first_of (forms_fault text p) (says (proc_of text p)))
 
 abbrev pub judge_source : List ℕ → Tree Token → Outcome Proc
 judge_source text a = judge_parts text (parts_of a)

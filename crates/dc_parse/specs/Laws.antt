@@ -27,11 +27,14 @@ pub record OneOutcomeEach (text : List ℕ) : Type 0 where
   pub sources : HasOneOutcome source (judge_source text) text
   pub conditions : (names : List (List ℕ)) → HasOneOutcome cond (judge_condition names text) text
 
--- a short text whose tokens derive a source and nest not too deep, and whose names and forms have no fault, says the procedure of that derivation
+-- a short text whose tokens derive a source and nest not too deep, and whose names and forms have
+-- no fault, says the procedure of that derivation
 abbrev pub SaysByTree : List ℕ → Type 0
 SaysByTree text =
-    (ts : List Token) (a : Tree Token) → length text ≤ 65536 → Tokens 0 text ts → Derives language (ref source) ts a → Shallow IsDeep ts (length ts)
-    → names_fault text (parts_of a) ≡ None → forms_fault text (parts_of a) ≡ None → SourceOutcome text (says (proc_of text (parts_of a)))
+    (ts : List Token) (a : Tree Token) → length text ≤ 65536 → Tokens 0 text ts
+        → Derives language (ref source) ts a → Shallow IsDeep ts (length ts)
+    → names_fault text (parts_of a) ≡ None → forms_fault text (parts_of a) ≡ None
+      → SourceOutcome text (says (proc_of text (parts_of a)))
 
 -- what a text says as a source is a program
 abbrev pub SaysPrograms : List ℕ → Type 0
@@ -39,7 +42,9 @@ SaysPrograms text = (p : Proc) → SourceOutcome text (says p) → IsProgram p
 
 -- what a text says as a condition over names is a condition over as many places
 abbrev pub SaysConditions : List ℕ → Type 0
-SaysConditions text = (names : List (List ℕ)) (cases : List (List Atom)) → ConditionOutcome names text (says cases) → IsCondition (length names) cases
+SaysConditions text =
+    (names : List (List ℕ)) (cases : List (List Atom)) → ConditionOutcome names text (says cases)
+    → IsCondition (length names) cases
 
 -- the tree of a text over names: its tokens, which nest not too deep, derive this condition
 pub record HasCondition (names : List (List ℕ)) (text : List ℕ) (c : Cond) : Type 0 where
@@ -50,14 +55,19 @@ pub record HasCondition (names : List (List ℕ)) (text : List ℕ) (c : Cond) :
   pub is : c ≡ cond_of (place_in text names) tree
 
 -- the cases that a text says hold exactly where its condition is true
-pub record HoldWhereTrue (names : List (List ℕ)) (text : List ℕ) (cases : List (List Atom)) : Type 0 where
+pub record HoldWhereTrue (names : List (List ℕ)) (text : List ℕ)
+    (cases : List (List Atom)) : Type 0 where
   pub some : (c : Cond) × HasCondition names text c
   pub agree : (c : Cond) → HasCondition names text c → (x : State) → some_hold cases x ≡ truth c x
 
 abbrev pub SaysItsCases : List ℕ → Type 0
-SaysItsCases text = (names : List (List ℕ)) (cases : List (List Atom)) → ConditionOutcome names text (says cases) → HoldWhereTrue names text cases
+SaysItsCases text =
+    (names : List (List ℕ)) (cases : List (List Atom)) → ConditionOutcome names text (says cases)
+    → HoldWhereTrue names text cases
 
--- of a source, each statement has the place at which it begins: there are as many of the one as of the other
+-- of a source, each statement has the place at which it begins: there are as many of the one as of
+-- the other
 abbrev pub HavePlaces : List ℕ → Type 0
 HavePlaces text =
-    (ts : List Token) (a : Tree Token) (n : ℕ) → Derives language (ref source) ts a → length (starts_of (parts_of a).body) ≡ length (all_faults n (body_of text (parts_of a)))
+    (ts : List Token) (a : Tree Token) (n : ℕ) → Derives language (ref source) ts a
+        → length (starts_of (parts_of a).body) ≡ length (all_faults n (body_of text (parts_of a)))

@@ -17,7 +17,8 @@ abbrev pub after_all : {A : Type 0} → List A → List ℕ → List ℕ
 after_all [] ps = ps
 after_all (f ∷ fs) ps = after_all fs (tail_of ps)
 
--- of statements with these faults, which begin at the places old: none has one and the places new are left, or the first is told
+-- of statements with these faults, which begin at the places old: none has one and the places new
+-- are left, or the first is told
 abbrev pub JudgesAll : List (Option FormFault) → List ℕ → Result (Unit {0}) Fault → List ℕ → Type 0
 JudgesAll fs old (Ok u) new = (first_form old fs ≡ None) × (new ≡ after_all fs old)
 JudgesAll fs old (Err e) new = (e.kind ≡ k.NoMemory) ⊎ (first_form old fs ≡ Some e)
@@ -26,7 +27,11 @@ JudgesAll fs old (Err e) new = (e.kind ≡ k.NoMemory) ⊎ (first_form old fs �
 abbrev pub Judges : Option FormFault → List ℕ → Result (Unit {0}) Fault → List ℕ → Type 0
 Judges f = JudgesAll (f ∷ [])
 
--- what the tokens say as a text of the name x; or want of memory, or the fault of their verdict, where the text ends at a place
-abbrev pub IsFound : {X : Type 0} → Name → (Tree Token → X → Type 0) → List Token → ℕ → Result X Fault → Type 0
+-- what the tokens say as a text of the name x; or want of memory, or the fault of their verdict,
+-- where the text ends at a place
+abbrev pub IsFound : {X : Type 0} → Name → (Tree Token → X → Type 0) → List Token → ℕ
+    → Result X Fault → Type 0
 IsFound x Is ts end (Ok s) = (a : Tree Token) × Finds language IsDeep x ts (whole a) × Is a s
-IsFound x Is ts end (Err e) = (e.kind ≡ k.NoMemory) ⊎ ((v : Verdict Token) × Finds language IsDeep x ts v × (verdict_fault ts end v ≡ Some e))
+IsFound x Is ts end (Err e) =
+    (e.kind ≡ k.NoMemory)
+    ⊎ ((v : Verdict Token) × Finds language IsDeep x ts v × (verdict_fault ts end v ≡ Some e))

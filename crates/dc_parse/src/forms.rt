@@ -51,8 +51,10 @@ impl<'a> Starts<'a> {
 fn judge_both(alloc: Global, c: &Cond, places: usize) -> Result<(), FormFault>
     requires few { places ≤ 11 }
     requires below { cond_is_below places c.now ≡ true }
-    ensures passes { OnOk result (option_or (dnf_fault places c.now false) (dnf_fault places c.now true) ≡ None) }
-    ensures fault { IfErr result (λ f. IsCause f (option_or (dnf_fault places c.now false) (dnf_fault places c.now true))) }
+    ensures passes { OnOk result
+        (option_or (dnf_fault places c.now false) (dnf_fault places c.now true) ≡ None) }
+    ensures fault { IfErr result
+        (λ f. IsCause f (option_or (dnf_fault places c.now false) (dnf_fault places c.now true))) }
 {
     let _yes = dnf(alloc, c, false, places)?;
     let _no = dnf(alloc, c, true, places)?;
@@ -102,7 +104,8 @@ fn judge_next(
 ) -> Result<(), Fault>
     requires few { places ≤ 11 }
     requires below { statement_below places (out-Stmt stmt.now) ≡ true }
-    ensures { Judges (statement_fault places (out-Stmt stmt.now)) starts.old.rest.now result starts.new.rest.now }
+    ensures { Judges (statement_fault places
+        (out-Stmt stmt.now)) starts.old.rest.now result starts.new.rest.now }
 {
     let at = starts.next();
     match judge_own(alloc, stmt, places) {

@@ -63,7 +63,9 @@ fn lex_fault(fault: LexFault) -> Fault
 fn lexed(alloc: Global, text: &[u8]) -> Result<Vec<Token>, Fault>
     ensures tokens { IfOk result (λ v. Tokens 0 text.now v.items) }
     ensures ascii { OnOk result (IsAscii text.now) }
-    ensures fault { IfErr result (λ f. (f.kind ≡ Kind.NoMemory) ⊎ ((e : AnyLexFault) × Fails 0 text.now e × (f ≡ fault_of e))) }
+    ensures fault { IfErr result
+        (λ f. (f.kind ≡ Kind.NoMemory)
+        ⊎ ((e : AnyLexFault) × Fails 0 text.now e × (f ≡ fault_of e))) }
 {
     match tokens(alloc, text) {
         Ok(found) => Ok(found),
@@ -141,9 +143,11 @@ fn params(p: &Proc) -> &[String]
 fn read_when(alloc: Global, text: &[u8], p: &Proc) -> Result<Vec<Vec<Atom>>, Fault>
     requires short { length text.now ≤ 65536 }
     requires program { IsProgram p.now }
-    ensures says { IfOk result (λ v. ConditionOutcome (params_of p.now) text.now (says (cases_of v.items))) }
+    ensures says { IfOk result
+        (λ v. ConditionOutcome (params_of p.now) text.now (says (cases_of v.items))) }
     ensures condition { IfOk result (λ v. IsCondition p.now.params (cases_of v.items)) }
-    ensures fault { IfErr result (λ f. (f.kind ≡ Kind.NoMemory) ⊎ ConditionOutcome (params_of p.now) text.now (refuses f)) }
+    ensures fault { IfErr result
+        (λ f. (f.kind ≡ Kind.NoMemory) ⊎ ConditionOutcome (params_of p.now) text.now (refuses f)) }
 {
     let tokens = lexed(alloc, text)?;
     let scope = Scope {
@@ -178,7 +182,8 @@ fn told(text: &[u8], fault: Fault) -> ParseFault
     requires { length text.now ≤ 65536 }
     ensures kind { result.kind ≡ fault.kind }
     ensures want { fault.kind ≡ Kind.NoMemory → (result.line ≡ 0) × (result.col ≡ 0) }
-    ensures place { (fault.kind ≡ Kind.NoMemory → ⊥) → (result.line ≡ line_at text.now fault.at) × (result.col ≡ column_at text.now fault.at) }
+    ensures place { (fault.kind ≡ Kind.NoMemory → ⊥) → (result.line ≡ line_at text.now fault.at)
+        × (result.col ≡ column_at text.now fault.at) }
 {
     if matches!(fault.kind, Kind::NoMemory) {
         return ParseFault {
@@ -197,14 +202,17 @@ fn told(text: &[u8], fault: Fault) -> ParseFault
 
 /// The procedure that a text says, or the first thing that is wrong with the text.
 ///
-/// What is wrong is judged in this order: `TooLong`; a byte of 128 or more, a byte that begins no token, or a number that is too wide, the first by place; a
-/// token with which no text goes on, an end that comes too soon, or a token that nests too deep, the first by place; the 11th declared name, a name that
-/// is declared twice, or the use of a name that isn't declared, the first by place; and in the first statement in preorder with such a fault, at the
-/// statement's first token, the first fault of its forms and conditions.
+/// What is wrong is judged in this order: `TooLong`; a byte of 128 or more, a byte that begins no
+/// token, or a number that is too wide, the first by place; a token with which no text goes on, an
+/// end that comes too soon, or a token that nests too deep, the first by place; the 11th declared
+/// name, a name that is declared twice, or the use of a name that isn't declared, the first by
+/// place; and in the first statement in preorder with such a fault, at the statement's first token,
+/// the first fault of its forms and conditions.
 pub fn parse_proc(alloc: Global, text: &[u8]) -> Result<Proc, ParseFault>
     ensures says { IfOk result (λ p. SourceOutcome text.now (says p)) }
     ensures program { IfOk result (λ p. IsProgram p) }
-    ensures fault { IfErr result (λ f. IsRefusal (SourceOutcome text.now) text.now f.line f.col f.kind) }
+    ensures fault { IfErr result
+        (λ f. IsRefusal (SourceOutcome text.now) text.now f.line f.col f.kind) }
 {
     if text.len() > LONGEST {
         return Err(too_long());
@@ -226,15 +234,18 @@ fn lists(alloc: Global, cases: Vec<Vec<Atom>>) -> Result<Items<Items<Atom>>, All
     Ok(all)
 }
 
-/// The cases of the condition that a text says over the parameters of a procedure: 1 to 64 conjunctions of affine atoms, of which one holds exactly where the
-/// condition is true.
+/// The cases of the condition that a text says over the parameters of a procedure: 1 to 64
+/// conjunctions of affine atoms, of which one holds exactly where the condition is true.
 ///
-/// What is wrong is judged as for [`parse_proc`]; the declared names are the parameters, and a fault of the condition stands at the first token.
+/// What is wrong is judged as for [`parse_proc`]; the declared names are the parameters, and a
+/// fault of the condition stands at the first token.
 pub fn parse_when(alloc: Global, text: &[u8], p: &Proc) -> Result<Items<Items<Atom>>, ParseFault>
     requires { IsProgram p.now }
     ensures says { IfOk result (λ v. ConditionOutcome (params_of p.now) text.now (says v)) }
     ensures condition { IfOk result (λ v. IsCondition p.now.params v) }
-    ensures fault { IfErr result (λ f. IsRefusal (ConditionOutcome (params_of p.now) text.now) text.now f.line f.col f.kind) }
+    ensures fault { IfErr result
+        (λ f. IsRefusal (ConditionOutcome
+        (params_of p.now) text.now) text.now f.line f.col f.kind) }
 {
     if text.len() > LONGEST {
         return Err(too_long());

@@ -56,8 +56,9 @@ module _ (Q : Type 0) (F : Field Q) where
     pub entries : (i : ℕ) → p.coefficient i u ≡ F.neg (p.coefficient i v)
     pub costs : p.cost u ≡ F.neg (p.cost v)
 
-  -- At each state of the run: entries of u and v are opposite, in the cost rows too; never are both basic; while u is basic, v is 0 in
-  -- both cost rows and doesn't enter; of the basic solution, and of the ray, one of both is 0.
+  -- At each state of the run: entries of u and v are opposite, in the cost rows too; never are both
+  -- basic; while u is basic, v is 0 in both cost rows and doesn't enter; of the basic solution, and
+  -- of the ray, one of both is 0.
   pub record StayOpposite (p : Linear Q) (u v : ℕ) : Type 0 where
     pub entries : (x : ℕ) (s : State Q) (i : ℕ) → run Q F p x ≡ Some s
         → i < length s.table.basis + 2 → at Q F s.table i u ≡ F.neg (at Q F s.table i v)

@@ -30,7 +30,8 @@ Ends = (p : Linear ℚ) → laws.Ends ℚ rationals p
 abbrev pub EndsSoon : Type 0
 EndsSoon = (p : Linear ℚ) → laws.EndsSoon ℚ rationals p
 
--- with a budget of as many pivots less one, or more, it never comes that the budget is spent and another pivot is due
+-- with a budget of as many pivots less one, or more, it never comes that the budget is spent and
+-- another pivot is due
 abbrev pub NeverSpent : Type 0
 NeverSpent = (p : Linear ℚ) → laws.NeverSpent ℚ rationals p
 

@@ -20,14 +20,15 @@ pub record IsUnbounded (p : Linear ℚ) (t : Table ℚ) (j : ℕ) : Type 0 where
   pub solution : IsSolution p (solution_at ℚ rationals t)
   pub ray : IsRay p (direction_at ℚ rationals t j)
 
--- the certificate that an end has; that of an infeasible problem is a refutation by the cost row of phase one
+-- the certificate that an end has; that of an infeasible problem is a refutation by the cost row of
+-- phase one
 abbrev pub Shows : Linear ℚ → Table ℚ → Ending → Type 0
 Shows p t Optimal = IsBest p t
 Shows p t Infeasible = IsRefutation p (multiplier_at ℚ rationals p t (length t.basis))
 Shows p t (Unbounded j) = IsUnbounded p t j
 
--- what an end says of the problem: no solution costs less than the table's value; there is no solution; from each the cost falls
--- below every bound
+-- what an end says of the problem: no solution costs less than the table's value; there is no
+-- solution; from each the cost falls below every bound
 abbrev pub Says : Linear ℚ → Table ℚ → Ending → Type 0
 Says p t Optimal = CostAtLeast p (value_of ℚ rationals t)
 Says p t Infeasible = HasNoSolution p

@@ -1,6 +1,7 @@
--- The pivot run of the simplex method by Bland's rule, over any ordered field: what is due at each table, the state after n pivots,
--- and where the run ends. Phase one lowers the sum of the artificial columns, drive-out takes artificial columns out of the basis
--- where that goes, phase two lowers the cost.
+-- The pivot run of the simplex method by Bland's rule, over any ordered field: what is due at each
+-- table, the state after n pivots, and where the run ends. Phase one lowers the sum of the
+-- artificial columns, drive-out takes artificial columns out of the basis where that goes, phase
+-- two lowers the cost.
 use Rattle.std.specs.Prelude.{◌≡◌, ℕ, zero, suc, ◌+◌, ◌<◌, cond, length, slice_index, Option, Some, None}
 use Rattle.std.specs.Option.{option_and_then}
 use Rattle.dc_math.specs.Field.{Field}
@@ -43,15 +44,20 @@ module _ (Q : Type 0) (F : Field Q) where
   drive_out t None = due_two t
   drive_out t (Some (r, j)) = Pivot Drive r j
 
-  -- drive-out: the first row with an artificial basic column and a nonzero real entry, at the least such column
+  -- drive-out: the first row with an artificial basic column and a nonzero real entry, at the least
+  -- such column
   unfoldable pub due_drive : Table Q → Due
   due_drive t = drive_out t (drive_place Q F t)
 
-  -- the end of phase one: infeasible where the right side of its cost row is negative, and else drive-out
+  -- the end of phase one: infeasible where the right side of its cost row is negative, and else
+  -- drive-out
   unfoldable pub end_one : Table Q → Due
-  end_one t = cond (is_negative Q F (at Q F t (length t.basis) (right Q F t))) (End Infeasible) (due_drive t)
+  end_one t =
+      cond (is_negative Q F (at Q F t (length t.basis) (right Q F t))) (End Infeasible)
+      (due_drive t)
 
-  -- phase one, where column j enters: the row that leaves, or the end of the phase (by a law there always is such a row)
+  -- phase one, where column j enters: the row that leaves, or the end of the phase (by a law there
+  -- always is such a row)
   abbrev pub leave_one : Table Q → ℕ → Option ℕ → Due
   leave_one t j None = end_one t
   leave_one t j (Some r) = Pivot One r j

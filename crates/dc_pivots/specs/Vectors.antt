@@ -18,13 +18,17 @@ module _ (Q : Type 0) (F : Field Q) where
   abbrev pub solution_at : Table Q → ℕ → Q
   solution_at t k = entry_or_zero t (right Q F t) (basic_row t k)
 
-  -- the way along which column j grows: 1 there, at a basic column minus the entry of j in its row, at another 0
+  -- the way along which column j grows: 1 there, at a basic column minus the entry of j in its row,
+  -- at another 0
   abbrev pub direction_at : Table Q → ℕ → ℕ → Q
   direction_at t j k = cond (k == j) F.one (F.neg (entry_or_zero t j (basic_row t k)))
 
-  -- the multiplier of equation i: minus the entry of its artificial column in the cost row, and negated where the equation was
+  -- the multiplier of equation i: minus the entry of its artificial column in the cost row, and
+  -- negated where the equation was
   abbrev pub multiplier_at : Linear Q → Table Q → ℕ → ℕ → Q
-  multiplier_at p t row i = cond (F.nonneg (p.right_side i)) (F.neg (at Q F t row (p.columns + i))) (at Q F t row (p.columns + i))
+  multiplier_at p t row i =
+      cond (F.nonneg (p.right_side i)) (F.neg (at Q F t row (p.columns + i)))
+      (at Q F t row (p.columns + i))
 
   -- the cost: minus the right side of the last row
   abbrev pub value_of : Table Q → Q

@@ -1,9 +1,11 @@
-//! The pivot run of the simplex method by Bland's rule, over any ordered field, and its laws. The definitions are in specs/.
+//! The pivot run of the simplex method by Bland's rule, over any ordered field, and its laws. The
+//! definitions are in specs/.
 #![tactic(auto)]
 
 pub mod laws;
 
-/// For what a pivot is made: to lower the sum of the artificial columns, to take one out of the basis, or to lower the cost.
+/// For what a pivot is made: to lower the sum of the artificial columns, to take one out of the
+/// basis, or to lower the cost.
 #[derive(Clone, Copy, Debug, PartialEq, Eq)]
 pub enum Phase {
     One,

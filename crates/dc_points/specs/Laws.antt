@@ -20,7 +20,8 @@ abbrev pub RefutationsShow : Type 0
 RefutationsShow = (hyps : List Atom) (n : ℕ) (y : ℕ → ℚ)
     → IsRefutation (rational (empty_problem hyps n)) y ↔ ShowsLive hyps n y
 
--- a solution of the problem of a form is multipliers that combine the list to the form and the solution's cost
+-- a solution of the problem of a form is multipliers that combine the list to the form and the
+-- solution's cost
 abbrev pub SupSolutionsCombine : Type 0
 SupSolutionsCombine = (hyps : List Atom) (form : List ℤ) (x : ℕ → ℚ)
     → IsSolution (rational (sup_problem hyps form)) x
@@ -32,7 +33,8 @@ abbrev pub DeadAreShown : Type 0
 DeadAreShown = (hyps : List Atom) (n : ℕ) → AreOver n hyps
     → IsDead hyps ↔ ((x : ℕ → ℚ) × ShowsDead hyps n x)
 
--- a vector that shows a list live names a point that meets it; and where a point meets a list, a vector shows it live
+-- a vector that shows a list live names a point that meets it; and where a point meets a list, a
+-- vector shows it live
 abbrev pub LiveAreNamed : Type 0
 LiveAreNamed = (hyps : List Atom) (n : ℕ) (y : ℕ → ℚ) → AreOver n hyps
     → ShowsLive hyps n y → (p : Point) × IsNamed n y p × MeetsAll p hyps
@@ -48,7 +50,8 @@ DeadOrMet = (hyps : List Atom) (n : ℕ) → AreOver n hyps → IsDead hyps ⊎ 
 -- ---- entailed atoms
 -- the easy direction: what multipliers show is entailed
 abbrev pub ShownAreEntailed : Type 0
-ShownAreEntailed = (hyps : List Atom) (n : ℕ) (a : Atom) (x : ℕ → ℚ) → AreOver n hyps → length a.coefs ≤ n
+ShownAreEntailed =
+    (hyps : List Atom) (n : ℕ) (a : Atom) (x : ℕ → ℚ) → AreOver n hyps → length a.coefs ≤ n
     → ShowsAtom hyps n a x → Entails hyps a
 
 -- the hard direction: what a list entails that isn't dead, multipliers show
@@ -82,4 +85,5 @@ LeastOrNone = (hyps : List Atom) (form : List ℤ) → AreOver (length form) hyp
 -- ---- points of whole numbers
 -- atoms hold at whole numbers exactly where the point of these meets them
 abbrev pub WholePointsMeet : Type 0
-WholePointsMeet = (hyps : List Atom) (x : List ℤ) → MeetsAll (whole_point x) hyps ↔ (all_hold hyps x ≡ true)
+WholePointsMeet =
+    (hyps : List Atom) (x : List ℤ) → MeetsAll (whole_point x) hyps ↔ (all_hold hyps x ≡ true)

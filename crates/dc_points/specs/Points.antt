@@ -44,7 +44,8 @@ AreOver n hyps = AllAtoms (λ a. length a.coefs ≤ n) hyps
 -- the point whose coordinate k, for k below n, is y k divided by y n, which is negative
 pub record IsNamed (n : ℕ) (y : ℕ → ℚ) (p : Point) : Type 0 where
   pub last : y n <ℚ of_ℤ (pos 0)
-  pub each : (k : ℕ) → k < n → of_ℤ (slice_index_or p.numbers k (pos 0)) *ℚ y n ≡ y k *ℚ of_ℤ p.denominator
+  pub each : (k : ℕ) → k < n
+      → of_ℤ (slice_index_or p.numbers k (pos 0)) *ℚ y n ≡ y k *ℚ of_ℤ p.denominator
 
 -- a point of whole numbers
 pub one_is_positive : pos 1 ≤ℤ pos 1

@@ -20,7 +20,8 @@ pub record CombinesTo (hyps : List Atom) (n : ℕ) (form : ℕ → ℤ) (c : ℚ
   pub coefficients : (i : ℕ) → i < n → sum_at hyps x i ≡ of_ℤ (form i)
   pub constant : constant_sum hyps x ≡ c
 
--- the sum has the atom's coefficients and a constant of at most the atom's: the atom is the sum and a multiple of 1 of at least 0
+-- the sum has the atom's coefficients and a constant of at most the atom's: the atom is the sum and
+-- a multiple of 1 of at least 0
 pub record ShowsAtom (hyps : List Atom) (n : ℕ) (a : Atom) (x : ℕ → ℚ) : Type 0 where
   pub signs : (j : ℕ) → j < length hyps → NonNegative (x j)
   pub coefficients : (i : ℕ) → i < n → sum_at hyps x i ≡ of_ℤ (coefficient_of a i)
@@ -30,7 +31,9 @@ pub record ShowsAtom (hyps : List Atom) (n : ℕ) (a : Atom) (x : ℕ → ℚ) :
 abbrev pub ShowsDead : List Atom → ℕ → (ℕ → ℚ) → Type 0
 ShowsDead hyps n x = CombinesTo hyps n (λ i. pos 0) (of_ℤ (negsuc 0)) x
 
--- the product with each atom's column of the empty problem is at most 0, and the last part is negative: the list is live
+-- the product with each atom's column of the empty problem is at most 0, and the last part is
+-- negative: the list is live
 pub record ShowsLive (hyps : List Atom) (n : ℕ) (y : ℕ → ℚ) : Type 0 where
-  pub columns : (j : ℕ) → j < length hyps → combined (rational (empty_problem hyps n)) y j ≤ℚ of_ℤ (pos 0)
+  pub columns : (j : ℕ) → j < length hyps
+      → combined (rational (empty_problem hyps n)) y j ≤ℚ of_ℤ (pos 0)
   pub last : y n <ℚ of_ℤ (pos 0)

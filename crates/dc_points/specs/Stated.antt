@@ -26,8 +26,8 @@ coefficient_of a i = whole_at a.coefs i
 abbrev pub place_entry : ℕ → List Atom → ℕ → ℕ → ℤ
 place_entry n hyps i j = if ltb i n then coefficient_of (atom_number hyps j) i else pos 0
 
--- Whether the list is dead: its multiples add up to -1. After the equations of the places comes one with the constants; no column
--- costs.
+-- Whether the list is dead: its multiples add up to -1. After the equations of the places comes one
+-- with the constants; no column costs.
 abbrev pub empty_problem : List Atom → ℕ → Linear ℤ
 empty_problem hyps n = record {
   equations = suc n;

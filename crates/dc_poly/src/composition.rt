@@ -12,7 +12,8 @@ use std::alloc::{AllocError, Global};
 // Whether a value with a positive exponent is 0.
 fn vanishes(mono: &Mono, values: &[Poly]) -> bool
     requires { length values.now ≡ length mono.now }
-    ensures { MatchBool result (product_weight mono.now values.now ≡ 0) (0 < product_weight mono.now values.now) }
+    ensures { MatchBool result (product_weight mono.now values.now ≡ 0)
+        (0 < product_weight mono.now values.now) }
 {
     let exponents = mono.exponents();
     for k in 0..exponents.len() {
@@ -23,7 +24,8 @@ fn vanishes(mono: &Mono, values: &[Poly]) -> bool
     false
 }
 
-// A term at the values. Where it vanishes no power is computed, so that no part is larger than the whole.
+// A term at the values. Where it vanishes no power is computed, so that no part is larger than the
+// whole.
 pub(crate) fn at_values(
     alloc: Global,
     places: usize,

@@ -7,7 +7,8 @@ pub fn vanishing_on_a_grid()
     ensures { Vanishes }
 {}
 
-/// Polynomials of the same places with equal values at every point, or with equal coefficients, are equal.
+/// Polynomials of the same places with equal values at every point, or with equal coefficients, are
+/// equal.
 pub fn equal_values_are_equal_lists()
     ensures values { SameByValues }
     ensures coefficients { SameByCoefficients }

@@ -98,7 +98,8 @@ impl Mono {
         total
     }
 
-    /// Graded order: lower degree first, then the one with the greater exponent at the first difference.
+    /// Graded order: lower degree first, then the one with the greater exponent at the first
+    /// difference.
     #[tactic(auto, using(crate::proofs::Monos::orders))]
     pub fn compare(&self, other: &Mono) -> Ordering
         ensures { result ≡ graded self.now other.now }

@@ -52,7 +52,8 @@ impl Poly {
         requires few { places ≤ 11 }
         requires inside { index < places }
         ensures variable { IfOk result (λ p. p ≡ sums.variable index places) }
-        ensures value { IfOk result (λ p. (xs : List ℤ) → value p.terms xs ≡ slice_index_or xs index (pos 0)) }
+        ensures value { IfOk result
+            (λ p. (xs : List ℤ) → value p.terms xs ≡ slice_index_or xs index (pos 0)) }
         ensures kind { IfOk result (λ p. IsPolynomial p) }
     {
         let mono = Mono::unit(alloc, index, places)?;
@@ -91,7 +92,8 @@ impl Poly {
     /// Each coefficient negated.
     pub fn neg(&self, alloc: Global) -> Result<Poly, AllocError>
         ensures negation { IfOk result (λ p. p ≡ negation_of self.now) }
-        ensures value { IfOk result (λ p. (xs : List ℤ) → value p.terms xs ≡ neg_ℤ (value self.now.terms xs)) }
+        ensures value { IfOk result
+            (λ p. (xs : List ℤ) → value p.terms xs ≡ neg_ℤ (value self.now.terms xs)) }
         ensures kind { IfOk result (λ p. IsPolynomial p) }
     {
         let list = self.terms.as_slice();

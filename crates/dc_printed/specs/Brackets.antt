@@ -6,7 +6,8 @@ use Rattle.dc_tokens.specs.declared.token.Token.{Token}
 
 -- ( ) [ ] { }
 abbrev pub is_bracket : ℕ → Bool
-is_bracket b = nat_eq b 40 || (nat_eq b 41 || (nat_eq b 91 || (nat_eq b 93 || (nat_eq b 123 || nat_eq b 125))))
+is_bracket b =
+    nat_eq b 40 || (nat_eq b 41 || (nat_eq b 91 || (nat_eq b 93 || (nat_eq b 123 || nat_eq b 125))))
 
 -- the brackets among the bytes of a text
 abbrev pub brackets_of : List ℕ → List ℕ

@@ -1,4 +1,5 @@
--- What a procedure must be to have a text: its names can be written, and its places and numbers are in range.
+-- What a procedure must be to have a text: its names can be written, and its places and numbers are
+-- in range.
 use Rattle.std.specs.Prelude.{◌≡◌, ℕ, ◌<◌, ◌≤◌, Bool, true, ◌&&◌, nat_lt, nat_le, List, [], ◌∷◌, length, map, slice_index_or}
 use Rattle.std.specs.Str.{bytes_eq}
 use Rattle.std.specs.List.{IsDistinct}

@@ -16,8 +16,8 @@ use Rattle.dc_parse.specs.Answers.{SourceOutcome}
 use Rattle.dc_printed.specs.Brackets.{brackets_in, opened}
 use Rattle.dc_printed.specs.Fits.{IsWritable}
 
--- the derivation of a text says a procedure: its name, its parameters and its names as they are spelled, and its statements, whose names
--- stand for their places
+-- the derivation of a text says a procedure: its name, its parameters and its names as they are
+-- spelled, and its statements, whose names stand for their places
 pub record IsTreeOf (text : List ℕ) (a : Tree Token) (p : Proc) : Type 0 where
   pub name : spelled text (parts_of a).name ≡ p.name
   pub params : length (parts_of a).params ≡ p.params
@@ -38,23 +38,32 @@ PrintedHasTree = (p : Proc) → IsWritable p → HasTree (text_of p) p
 
 -- no text with the tree of the procedure has fewer brackets `(` and `[` than the printed one
 abbrev pub FewestBrackets : Type 0
-FewestBrackets = (p : Proc) → IsWritable p → (text : List ℕ) (other : HasTree text p) (printed : HasTree (text_of p) p) → opened (brackets_in printed.tokens) ≤ opened (brackets_in other.tokens)
+FewestBrackets =
+    (p : Proc) → IsWritable p
+    → (text : List ℕ) (other : HasTree text p) (printed : HasTree (text_of p) p)
+    → opened (brackets_in printed.tokens) ≤ opened (brackets_in other.tokens)
 
--- what the parser reads from a text it reads from the printed text again, where that is short enough to be read
+-- what the parser reads from a text it reads from the printed text again, where that is short
+-- enough to be read
 abbrev pub PrintedReadsBack : Type 0
-PrintedReadsBack = (text : List ℕ) (p : Proc) → SourceOutcome text (says p) → length (text_of p) ≤ 65536 → SourceOutcome (text_of p) (says p)
+PrintedReadsBack =
+    (text : List ℕ) (p : Proc) → SourceOutcome text (says p) → length (text_of p) ≤ 65536
+    → SourceOutcome (text_of p) (says p)
 
 -- what the parser reads from a text has a text
 abbrev pub HaveTexts : Type 0
 HaveTexts = (text : List ℕ) (p : Proc) → SourceOutcome text (says p) → IsWritable p
 
--- each expression and each whole condition of a source has at most 64 operators (and its literals are those that a text may have), and nowhere are more than
--- 64 brackets open
+-- each expression and each whole condition of a source has at most 64 operators (and its literals
+-- are those that a text may have), and nowhere are more than 64 brackets open
 pub record HasFew (text : List ℕ) (ts : List Token) (a : Tree Token) : Type 0 where
   pub operators : all_limited (body_of text (parts_of a)) ≡ true
   pub brackets : (k : ℕ) → k ≤ length ts → open_brackets (take k ts) ≤ 64
 
 -- the tokens of a source nest not too deep exactly where it has few operators and brackets
 abbrev pub DeepWhereMany : Type 0
-DeepWhereMany = (text : List ℕ) (ts : List Token) (a : Tree Token) → Tokens 0 text ts → Derives language (ref source) ts a
-    → (Shallow IsDeep ts (length ts) → HasFew text ts a) × (HasFew text ts a → Shallow IsDeep ts (length ts))
+DeepWhereMany =
+    (text : List ℕ) (ts : List Token) (a : Tree Token) → Tokens 0 text ts
+    → Derives language (ref source) ts a
+    → (Shallow IsDeep ts (length ts) → HasFew text ts a)
+      × (HasFew text ts a → Shallow IsDeep ts (length ts))

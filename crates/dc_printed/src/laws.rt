@@ -17,12 +17,14 @@ pub fn a_printed_text_has_the_fewest_brackets()
     ensures { FewestBrackets }
 {}
 
-/// What the parser reads from a text, it reads from the printed text again, where that has at most 65,536 bytes.
+/// What the parser reads from a text, it reads from the printed text again, where that has at most
+/// 65,536 bytes.
 pub fn a_printed_text_reads_back()
     ensures { PrintedReadsBack }
 {}
 
-/// The tokens of a source nest too deep exactly where an expression or a condition has more than 64 operators, or more than 64 brackets are open.
+/// The tokens of a source nest too deep exactly where an expression or a condition has more than 64
+/// operators, or more than 64 brackets are open.
 pub fn a_source_is_too_deep_where_its_parts_are()
     ensures { DeepWhereMany }
 {}

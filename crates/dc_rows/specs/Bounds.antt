@@ -10,7 +10,9 @@ mentioned s when = 0 ∷ (s.literals ++ map (λ (a : Atom). unsigned_abs a.c0) w
 
 -- a number and its neighbours, and the same negated
 abbrev pub around : ℕ → List ℤ
-around c = (pos c -ℤ pos 1) ∷ pos c ∷ (pos c +ℤ pos 1) ∷ (pos 1 -ℤ pos c) ∷ neg_ℤ (pos c) ∷ (neg_ℤ (pos c) -ℤ pos 1) ∷ []
+around c =
+    (pos c -ℤ pos 1) ∷ pos c ∷ (pos c +ℤ pos 1) ∷ (pos 1 -ℤ pos c) ∷ neg_ℤ (pos c)
+    ∷ (neg_ℤ (pos c) -ℤ pos 1) ∷ []
 
 -- the largest size of a bound
 abbrev pub largest_bound : ℕ
@@ -22,7 +24,8 @@ is_within b = leb (unsigned_abs b) largest_bound
 -- into a rising list, unless it is there
 abbrev pub with_bound : ℤ → List ℤ → List ℤ
 with_bound b [] = b ∷ []
-with_bound b (c ∷ cs) = if int_lt b c then b ∷ c ∷ cs else (if int_eq b c then c ∷ cs else c ∷ with_bound b cs)
+with_bound b (c ∷ cs) =
+    if int_lt b c then b ∷ c ∷ cs else (if int_eq b c then c ∷ cs else c ∷ with_bound b cs)
 
 abbrev pub rising : List ℤ → List ℤ
 rising [] = []

@@ -19,15 +19,20 @@ pub data IsSource (s : System) (when : List Atom) (pairs : Bool) (r : Row) : Typ
   -- a variable, or its negation
   single : (k : ℕ) (c : ℤ) → k < s.vars → IsUnit c → r ≡ alone s.vars k c → IsSource s when pairs r
   -- the sum of two variables, or of one and the negation of the other, or of both negations
-  pair : (j k : ℕ) (c d : ℤ) → pairs ≡ true → j < k → k < s.vars → IsUnit c → IsUnit d → r ≡ together s.vars j c k d → IsSource s when pairs r
+  pair : (j k : ℕ) (c d : ℤ) → pairs ≡ true → j < k → k < s.vars → IsUnit c → IsUnit d
+      → r ≡ together s.vars j c k d → IsSource s when pairs r
   -- the linear part of an atom of the condition, unless it is zero
-  condition : (a : Atom) → In a when → r ≡ linear_part s.vars a → is_nonzero r ≡ true → IsSource s when pairs r
+  condition : (a : Atom) → In a when → r ≡ linear_part s.vars a → is_nonzero r ≡ true
+      → IsSource s when pairs r
   -- that of an atom of a guard, unless it mentions the chosen value
-  guard : (e : Edge) (a : Atom) → In e s.edges → In a e.guard → is_unchosen s.vars a ≡ true → r ≡ linear_part s.vars a → is_nonzero r ≡ true → IsSource s when pairs r
+  guard : (e : Edge) (a : Atom) → In e s.edges → In a e.guard → is_unchosen s.vars a ≡ true
+      → r ≡ linear_part s.vars a → is_nonzero r ≡ true → IsSource s when pairs r
 
 -- a row is a candidate exactly where it has a source
 abbrev pub RowsHaveSources : Type 0
-RowsHaveSources = (s : System) (when : List Atom) (pairs : Bool) (r : Row) → In r (candidate_rows s when pairs) ↔ IsSource s when pairs r
+RowsHaveSources =
+    (s : System) (when : List Atom) (pairs : Bool) (r : Row) → In r (candidate_rows s when pairs)
+    ↔ IsSource s when pairs r
 
 -- b or its negation is c, or one less or one more
 abbrev pub IsNear : ℤ → ℕ → Type 0
@@ -35,8 +40,14 @@ IsNear b c = (d : ℤ) × ((d ≡ b) ⊎ (d ≡ neg_ℤ b)) × (unsigned_abs (d 
 
 -- a bound is a candidate exactly where it is near a number that is mentioned, and within its size
 abbrev pub BoundsAreNear : Type 0
-BoundsAreNear = (s : System) (when : List Atom) (b : ℤ) → In b (candidate_bounds s when) ↔ ((unsigned_abs b ≤ largest_bound) × ((c : ℕ) × In c (mentioned s when) × IsNear b c))
+BoundsAreNear =
+    (s : System) (when : List Atom) (b : ℤ) → In b (candidate_bounds s when)
+    ↔ ((unsigned_abs b ≤ largest_bound) × ((c : ℕ) × In c (mentioned s when) × IsNear b c))
 
--- what no limit refuses is as every call wants it that is lent candidates: rows differ, none is zero, each is within an atom's sizes; bounds rise
+-- what no limit refuses is as every call wants it that is lent candidates: rows differ, none is
+-- zero, each is within an atom's sizes; bounds rise
 abbrev pub AreKind : Type 0
-AreKind = (s : System) (when : List Atom) (pairs : Bool) → IsWellFormed s → AllAtoms (IsAtom s.params) when → size_fault (candidates_of s when pairs) ≡ None → AreCandidates s.vars (candidates_of s when pairs)
+AreKind =
+    (s : System) (when : List Atom) (pairs : Bool) → IsWellFormed s
+    → AllAtoms (IsAtom s.params) when → size_fault (candidates_of s when pairs) ≡ None
+    → AreCandidates s.vars (candidates_of s when pairs)

@@ -34,7 +34,8 @@ single_rows n = flat_map (rows_of_one n) (range_with_len 0 n)
 -- of two variables: difference both ways, sum, and minus the sum
 abbrev pub rows_of_two : ℕ → ℕ → ℕ → List Row
 rows_of_two n j k =
-    together n j (pos 1) k (negsuc 0) ∷ together n j (negsuc 0) k (pos 1) ∷ together n j (pos 1) k (pos 1) ∷ together n j (negsuc 0) k (negsuc 0) ∷ []
+    together n j (pos 1) k (negsuc 0) ∷ together n j (negsuc 0) k (pos 1)
+      ∷ together n j (pos 1) k (pos 1) ∷ together n j (negsuc 0) k (negsuc 0) ∷ []
 
 -- with each later variable in order
 abbrev pub later_rows : ℕ → ℕ → List Row
@@ -68,7 +69,8 @@ atom_rows s when = linear_parts s.vars (when ++ filter (is_unchosen s.vars) (gua
 
 -- ---- all of them
 abbrev pub rows_with_repeats : System → List Atom → Bool → List Row
-rows_with_repeats s when pairs = single_rows s.vars ++ ((if pairs then pair_rows s.vars else []) ++ atom_rows s when)
+rows_with_repeats s when pairs =
+    single_rows s.vars ++ ((if pairs then pair_rows s.vars else []) ++ atom_rows s when)
 
 abbrev pub same_row : Row → Row → Bool
 same_row r q = pointwise int_eq r q

@@ -44,7 +44,8 @@ fn add_near(bounds: &mut Vec<i64>, size: u64) -> Result<(), AllocError>
 fn listed(alloc: Global, s: &System, when: &[Atom]) -> Result<Vec<i64>, AllocError>
     requires literals { AllByRecursion (λ (k : ℕ). k ≤ 2147483647) s.now.literals }
     requires atoms { AllAtoms (IsAtom s.now.params) when.now }
-    ensures { IfOk result (λ bounds. bounds.items ≡ filter is_within (flat_map around (mentioned s.now when.now))) }
+    ensures { IfOk result
+        (λ bounds. bounds.items ≡ filter is_within (flat_map around (mentioned s.now when.now))) }
 {
     let mut bounds = Vec::new(alloc);
     add_near(&mut bounds, 0)?;

@@ -4,7 +4,8 @@ use sqlite_items::Items;
 use std::alloc::AllocError;
 use thiserror::Error;
 
-/// Which linear forms may be bounded, and by which numbers: each row and each bound make the atom "row + bound >= 0".
+/// Which linear forms may be bounded, and by which numbers: each row and each bound make the atom
+/// "row + bound >= 0".
 ///
 /// A row has one coefficient for each variable.
 #[derive(Debug, Drop)]

@@ -7,7 +7,8 @@ use sqlite_items::Items;
 use std::alloc::{AllocError, Global};
 use std::marker::Model;
 
-/// Different rows in the order of their insertion, which contracts see as the list of their coefficients.
+/// Different rows in the order of their insertion, which contracts see as the list of their
+/// coefficients.
 pub(crate) struct RowSet {
     set: IndexSet<Vec<i64>>,
 }

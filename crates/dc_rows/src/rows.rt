@@ -142,7 +142,8 @@ fn add_guard(
     vars: usize,
     guard: &[Atom],
 ) -> Result<(), AllocError>
-    ensures { OnOk result (rows.new ≡ with_rows rows.old (linear_parts vars (filter (is_unchosen vars) guard.now))) }
+    ensures { OnOk result
+        (rows.new ≡ with_rows rows.old (linear_parts vars (filter (is_unchosen vars) guard.now))) }
 {
     for atom in guard {
         if coef(atom, vars) == 0 {
@@ -158,7 +159,9 @@ fn add_guards(
     vars: usize,
     edges: &[Edge],
 ) -> Result<(), AllocError>
-    ensures { OnOk result (rows.new ≡ with_rows rows.old (linear_parts vars (filter (is_unchosen vars) (guard_atoms edges.now)))) }
+    ensures { OnOk result
+        (rows.new ≡ with_rows rows.old
+        (linear_parts vars (filter (is_unchosen vars) (guard_atoms edges.now)))) }
 {
     for edge in edges {
         add_guard(alloc, rows, vars, edge.guard.as_slice())?;

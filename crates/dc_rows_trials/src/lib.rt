@@ -1,4 +1,5 @@
-//! Tests of the candidates of sources, whose values were worked out by hand. The crate has no function of its own.
+//! Tests of the candidates of sources, whose values were worked out by hand. The crate has no
+//! function of its own.
 #![tactic(auto)]
 
 #[cfg(test)]

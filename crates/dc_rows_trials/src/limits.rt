@@ -30,7 +30,8 @@ fn tens(alloc: Global, statements: u32) -> Result<String, AllocError> {
     Ok(text)
 }
 
-// So many different comparisons a*n <= b*m + c*k, by turns of the numbers 1 to 11, twelve in a statement.
+// So many different comparisons a*n <= b*m + c*k, by turns of the numbers 1 to 11, twelve in a
+// statement.
 fn turns(alloc: Global, comparisons: u32) -> Result<String, AllocError> {
     let mut text = String::from_str(alloc, "proc f(n, m, k) { assume (true")?;
     for at in 0..comparisons {
@@ -59,7 +60,8 @@ fn rising(alloc: Global, comparisons: u32) -> Result<String, AllocError> {
     Ok(text)
 }
 
-// With 42 literals, each of which has six neighbours of its own, and 0 with three there are 255 bounds, with one more 261.
+// With 42 literals, each of which has six neighbours of its own, and 0 with three there are 255
+// bounds, with one more 261.
 #[test]
 fn at_most_256_bounds(rt: HostRuntime) -> Result<(), Fail> {
     let alloc = rt.alloc();
@@ -88,7 +90,8 @@ fn at_most_1024_rows(rt: HostRuntime) -> Result<(), Fail> {
     Ok(())
 }
 
-// Four rows are those of the two variables; with the literals from 1 to c all numbers from -c - 1 to c + 1 are bounds.
+// Four rows are those of the two variables; with the literals from 1 to c all numbers from -c - 1
+// to c + 1 are bounds.
 #[test]
 fn rows_are_counted_first(rt: HostRuntime) -> Result<(), Fail> {
     let alloc = rt.alloc();

@@ -15,7 +15,8 @@ struct Row {
 
 const LOOP: &str = "proc f(n) { var i; while (i < n) { tick 2; i = i + 1; } }";
 
-// The papers' worked rows and, by hand, what they leave out: the rows of intervals alone, which end with those of the guards.
+// The papers' worked rows and, by hand, what they leave out: the rows of intervals alone, which end
+// with those of the guards.
 const LOOPS: &[Row] = &[
     Row {
         source: LOOP,
@@ -70,7 +71,8 @@ const SHAPES: &[Row] = &[
         ],
         bounds: &[-1, 0, 1],
     },
-    // The condition's rows come before the guards', each at its first place; the condition says nothing of the local.
+    // The condition's rows come before the guards', each at its first place; the condition says
+    // nothing of the local.
     Row {
         source: "proc f(n) { var x; assume (3*n <= x); assume (2*n <= 1); }",
         when: "2*n <= 7",
@@ -158,7 +160,8 @@ fn rows_and_bounds_by_example(rt: HostRuntime) -> Result<(), Fail> {
     Ok(())
 }
 
-// Folding turns the guard y <= n into one over n alone: rows are taken from the system that isn't folded.
+// Folding turns the guard y <= n into one over n alone: rows are taken from the system that isn't
+// folded.
 #[test]
 fn folding_changes_the_rows(rt: HostRuntime) -> Result<(), Fail> {
     let alloc = rt.alloc();

@@ -43,10 +43,10 @@ fn put_block(out: &mut String, cost: u64) -> Result<(), AllocError>
 
 /// The pair of a seed, with so many loops in each source.
 ///
-/// The seed begins a row of numbers `x`, in which `(1103515245 * x + 12345) mod 2^31` follows `x`. Each number
-/// behind the seed gives the cost `1 + (x div 65536) mod 9`: the first one that of the new version's first loop, the
-/// second one that of the old version's, and so on in turn. Each loop counts `i` from 0 up to `n` and pays its cost
-/// at every turn.
+/// The seed begins a row of numbers `x`, in which `(1103515245 * x + 12345) mod 2^31` follows `x`.
+/// Each number behind the seed gives the cost `1 + (x div 65536) mod 9`: the first one that of the
+/// new version's first loop, the second one that of the old version's, and so on in turn. Each loop
+/// counts `i` from 0 up to `n` and pays its cost at every turn.
 ///
 /// # Errors
 ///

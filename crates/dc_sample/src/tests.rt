@@ -1,4 +1,5 @@
-//! Pairs of a table of seeds. The costs were worked out by hand, from the numbers that follow each seed.
+//! Pairs of a table of seeds. The costs were worked out by hand, from the numbers that follow each
+//! seed.
 use crate::{Pair, sample_pair};
 use std::alloc::{AllocError, Global};
 use std::process::Abort;

@@ -2,8 +2,8 @@
 
 ghost use Rattle.dc_sample_laws.specs.Laws.{ConditionIsRead, HaveNoFault, PairsAreRead, SourcesAreRead};
 
-/// The source of a list of costs says the procedure that has a loop for each cost. So both sources of a pair say
-/// procedures, which have the same parameters.
+/// The source of a list of costs says the procedure that has a loop for each cost. So both sources
+/// of a pair say procedures, which have the same parameters.
 pub fn sources_are_read()
     ensures sources { SourcesAreRead }
     ensures pairs { PairsAreRead }

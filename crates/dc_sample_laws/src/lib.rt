@@ -1,4 +1,5 @@
-//! What generated sources and their condition say: laws of the pairs of `dc_sample`, by the parser's definitions.
+//! What generated sources and their condition say: laws of the pairs of `dc_sample`, by the
+//! parser's definitions.
 #![tactic(auto)]
 
 pub mod laws;

@@ -1,4 +1,5 @@
--- What an analysis answers: the certificate that the outcomes of its session give, or its first refusal.
+-- What an analysis answers: the certificate that the outcomes of its session give, or its first
+-- refusal.
 use Rattle.std.specs.Prelude.{◌≡◌, ◌⊎◌}
 use Rattle.dc_math.specs.Rational.{ℚ}
 use Rattle.dc_syntax.specs.Params.{HaveSameParams}
@@ -23,9 +24,9 @@ pub record IsInput (i : Input) : Type 0 where
   pub condition : IsCondition i.new.params i.cases
   pub settings : AreSettings i.settings
 
--- The certificate that is made, where nothing is refused. The checker accepts it, so what it claims is so,
--- over the printed atoms of the greatest families. The lent tableau is left at the table at which the run of
--- the main problem ends.
+-- The certificate that is made, where nothing is refused. The checker accepts it, so what it claims
+-- is so, over the printed atoms of the greatest families. The lent tableau is left at the table at
+-- which the run of the main problem ends.
 pub record TellsCertificate (i : Input) (left : Meaning) (c : Certificate) : Type 0 where
   pub analysis : Analysis
   pub through : IsThrough i analysis

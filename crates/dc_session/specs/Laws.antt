@@ -30,7 +30,8 @@ abbrev pub AsksOne : Type 0
 AsksOne = (i : Input) (a b : Analysis) → IsAnalysis i a → IsAnalysis i b
     → session_of i a ≡ session_of i b
 
--- its printed atoms are those of the greatest families, and its flags tell which duties over these are owed
+-- its printed atoms are those of the greatest families, and its flags tell which duties over these
+-- are owed
 pub record IsOfGreatest (i : Input) (a : Analysis) : Type 0 where
   pub new : IsGreatest (graph_of a.new) i.cases (candidates_for i i.new) a.new_part.family
   pub old : IsGreatest (graph_of a.old) i.cases (candidates_for i i.old) a.old_part.family
@@ -50,7 +51,8 @@ abbrev pub OneRefusal : Type 0
 OneRefusal = (i : Input) (f g : AnalyseFault) → IsRefusal i f → IsRefusal i g → f ≡ g
 
 -- ---- certificates
--- the outcomes give one certificate, which says of both versions and of what is live what the analysis says
+-- the outcomes give one certificate, which says of both versions and of what is live what the
+-- analysis says
 abbrev pub OneMade : Type 0
 OneMade = (i : Input) (a : Analysis) (t u : Table ℚ) (c d : Certificate)
     → IsMade i a t c → IsMade i a u d → (t ≡ u) × (c ≡ d)

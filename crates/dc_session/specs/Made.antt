@@ -33,8 +33,8 @@ pub record AreItemsOf (n : ℕ) (f : ℕ → ℚ) (v : Sparse) : Type 0 where
   pub items : v.items ≡ nonzero_from 0 whole
 
 -- ---- the body, by the table at which the run of the main problem ends
--- Over the columns of a main problem with u unknowns: each unknown is its plus less its minus, and then come
--- the multipliers.
+-- Over the columns of a main problem with u unknowns: each unknown is its plus less its minus, and
+-- then come the multipliers.
 abbrev pub unknown_in : (ℕ → ℚ) → ℕ → ℚ
 unknown_in x k = x (k * 2) -ℚ x (suc (k * 2))
 
@@ -48,8 +48,8 @@ module _ (main : Linear ℤ) (u : ℕ) (t : Table ℚ) where
   abbrev pub IsLambda : (ℕ → ℚ) → Sparse → Type 0
   IsLambda x v = AreItemsOf (main.columns - u * 2) (multiplier_in u x) v
 
-  -- the multipliers of the equations by a cost row: that of phase one stands after the equations' rows, and
-  -- then that of phase two
+  -- the multipliers of the equations by a cost row: that of phase one stands after the equations'
+  -- rows, and then that of phase two
   abbrev pub IsDual : ℕ → Sparse → Type 0
   IsDual row v = AreItemsOf main.equations (multiplier_at (rational main) t row) v
 

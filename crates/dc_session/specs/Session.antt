@@ -43,8 +43,8 @@ abbrev pub cases_asked : ℕ → List (List Atom) → List Asked
 cases_asked params cases = numbered (case_asked params) 0 cases
 
 -- ---- 2. of one version
--- the problems of the rounds and the family that these leave; the printed atoms and the questions that are
--- asked for them; and by these atoms which edges are live, and whether the exit is
+-- the problems of the rounds and the family that these leave; the printed atoms and the questions
+-- that are asked for them; and by these atoms which edges are live, and whether the exit is
 pub record Part : Type 0 where
   pub rounds : List Asked
   pub family : Family

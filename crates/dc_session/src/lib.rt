@@ -1,6 +1,8 @@
-//! What an analysis is: the problems that it asks, in order, its first refusal, and the certificate that the outcomes give.
+//! What an analysis is: the problems that it asks, in order, its first refusal, and the certificate
+//! that the outcomes give.
 //!
-//! The crate has no function that computes: it is definitions, laws over them, and the type of refusals.
+//! The crate has no function that computes: it is definitions, laws over them, and the type of
+//! refusals.
 //!
 //! - `Session`: everything that the definitions determine of an analysis, and its problems as one list of places and problems;
 //! - `Refusals`: the counts, and which step is refused first;

@@ -60,8 +60,8 @@ pub record IsSpent (p : Linear ℚ) (n : ℕ) : Type 0 where
   pub fit : AllFit p n
   pub spent : Spent ℚ rationals p n
 
--- What a run comes to within a budget of pivots: its end, after so many pivots and with this table; the number of its first pivot that
--- doesn't fit; or the whole budget with another pivot due.
+-- What a run comes to within a budget of pivots: its end, after so many pivots and with this table;
+-- the number of its first pivot that doesn't fit; or the whole budget with another pivot due.
 pub data Answer : Type 0 where
   Done : ℕ → Ending → Table ℚ → Answer
   Past : ℕ → Answer

@@ -1,4 +1,5 @@
--- What `solve` answers: the answer of the run with the vectors of its last table, and what these show of the problem.
+-- What `solve` answers: the answer of the run with the vectors of its last table, and what these
+-- show of the problem.
 use Rattle.std.specs.Prelude.{◌≡◌, ℕ, ◌+◌, ◌<◌, ◌≤◌, ◌⊎◌, pos, List, length, Some, Result, Ok, Err}
 use Rattle.dc_math.specs.Rational.{ℚ, of_ℤ}
 use Rattle.dc_math.specs.RationalField.{rationals}
@@ -51,10 +52,12 @@ pub record TellsUnbounded (p : Linear ℚ) (t : Table ℚ) (j : ℕ) (x r : List
   pub solution : IsVector p.columns (solution_at t) x
   pub ray : IsVector p.columns (direction_at t j) r
 
--- the outcome is of this end; that of an infeasible problem has the multipliers by the cost row of phase one
+-- the outcome is of this end; that of an infeasible problem has the multipliers by the cost row of
+-- phase one
 abbrev pub TellsEnd : Linear ℚ → Table ℚ → Ending → Outcome → Type 0
 TellsEnd p t endings.Optimal (Optimal x y v n) = TellsBest p t x.items y.items v
-TellsEnd p t endings.Infeasible (Infeasible y n) = IsVector p.equations (multiplier_at p t (length t.basis)) y.items
+TellsEnd p t endings.Infeasible (Infeasible y n) =
+    IsVector p.equations (multiplier_at p t (length t.basis)) y.items
 TellsEnd p t (endings.Unbounded j) (Unbounded x r n) = TellsUnbounded p t j x.items r.items
 TellsEnd p t e o = ⊥
 
@@ -63,8 +66,8 @@ pivots_of (Optimal x y v n) = n
 pivots_of (Infeasible y n) = n
 pivots_of (Unbounded x r n) = n
 
--- The outcome of a problem, apart from any tableau and budget: its run ends so after so many pivots, and the vectors are those of its
--- last table.
+-- The outcome of a problem, apart from any tableau and budget: its run ends so after so many
+-- pivots, and the vectors are those of its last table.
 pub record IsOutcome (p : Linear ℚ) (o : Outcome) : Type 0 where
   pub ending : Ending
   pub state : runs.State ℚ
@@ -84,8 +87,8 @@ AreSame a b = ⊥
 abbrev pub HasOneOutcome : Type 0
 HasOneOutcome = (p : Linear ℚ) (a b : Outcome) → IsOutcome p a → IsOutcome p b → AreSame a b
 
--- This is the outcome; its pivots fit and are within the budget; and the tableau is left at its last table, loaded, whole and ready for
--- no pivot.
+-- This is the outcome; its pivots fit and are within the budget; and the tableau is left at its
+-- last table, loaded, whole and ready for no pivot.
 pub record TellsDone (p : Linear ℚ) (budget : ℕ) (left : Meaning) (o : Outcome) : Type 0 where
   pub outcome : IsOutcome p o
   pub fit : AllFit p (pivots_of o)

@@ -14,7 +14,8 @@ use Rattle.dc_simplex.specs.declared.SolveFault.{SolveFault}
 use Rattle.dc_simplex.specs.declared.SolveFault.TheVariants.{Past128, Budget, NoMemory}
 use Rattle.dc_simplex.specs.Limits.{test_fits, Done, Past, Out, IsAnswer}
 
--- what the search for what is due has to say at a table: what is due, where the quotients fit that it looks at
+-- what the search for what is due has to say at a table: what is due, where the quotients fit that
+-- it looks at
 abbrev pub told : Table ℚ → Due → Result Due PastQuotient
 told t d = cond (test_fits t d) (Ok d) (Err (record {}))
 

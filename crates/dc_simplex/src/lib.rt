@@ -1,7 +1,8 @@
-//! The simplex method in exact numbers, by Bland's rule (R. G. Bland, New finite pivoting rules for the simplex method, 1977), over any
-//! tableau.
+//! The simplex method in exact numbers, by Bland's rule (R. G. Bland, New finite pivoting rules for
+//! the simplex method, 1977), over any tableau.
 //!
-//! The pivot run is defined in `dc_pivots`, apart from any code: it is the same to the last pivot whatever holds the tableau.
+//! The pivot run is defined in `dc_pivots`, apart from any code: it is the same to the last pivot
+//! whatever holds the tableau.
 #![tactic(auto)]
 
 pub mod laws;
@@ -60,15 +61,17 @@ pub enum SolveFault {
     NoMemory,
 }
 
-/// Solves a linear problem with at most `budget` pivots, drive-out included, on a tableau that is lent for it.
+/// Solves a linear problem with at most `budget` pivots, drive-out included, on a tableau that is
+/// lent for it.
 ///
-/// The result is the answer of the problem's pivot run: its end with the vectors of its last table, where the tableau is left; or the
-/// first refusal of the run. A budget of as many pivots as there are sets of m columns among n + m, for m equations in n unknowns,
-/// is never spent. Of two columns that are each other's negatives, with their costs, a solution or a ray uses at most one.
+/// The result is the answer of the problem's pivot run: its end with the vectors of its last table,
+/// where the tableau is left; or the first refusal of the run. A budget of as many pivots as there
+/// are sets of m columns among n + m, for m equations in n unknowns, is never spent. Of two columns
+/// that are each other's negatives, with their costs, a solution or a ray uses at most one.
 ///
 /// # Errors
-/// `Past128` exactly where a pivot within the budget doesn't fit, and `Budget` exactly where the run wants one more than the budget.
-/// The tableau is then in no state that is told.
+/// `Past128` exactly where a pivot within the budget doesn't fit, and `Budget` exactly where the
+/// run wants one more than the budget. The tableau is then in no state that is told.
 pub fn solve<T: Tableau>(
     alloc: Global,
     p: &Problem,

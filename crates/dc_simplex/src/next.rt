@@ -96,7 +96,8 @@ fn next_two<T: Tableau>(m: usize, tableau: &T) -> Result<Due, PastQuotient>
     }
 }
 
-/// The first row with an artificial basic column and a nonzero real entry, and the least column of such an entry.
+/// The first row with an artificial basic column and a nonzero real entry, and the least column of
+/// such an entry.
 fn place_to_drive<T: Tableau>(m: usize, n: usize, tableau: &T) -> Option<(usize, usize)>
     requires usable { IsUsable (T.meaning tableau.now) }
     requires rows { m ≡ length (T.meaning tableau.now).table.basis }

@@ -31,7 +31,8 @@ pub fn outcome<T: Tableau>(
     requires rows { p.now.rows ≡ length (T.meaning tableau.now).table.basis }
     requires columns { columns p.now ≡ (T.meaning tableau.now).table.real }
     requires along { IsAlong (columns p.now) ending }
-    ensures vectors { IfOk result (λ o. TellsEnd (linear_of p.now) (T.meaning tableau.now).table ending o) }
+    ensures vectors { IfOk result
+        (λ o. TellsEnd (linear_of p.now) (T.meaning tableau.now).table ending o) }
     ensures pivots { IfOk result (λ o. pivots_of o ≡ pivots) }
 {
     let m = p.rows;
@@ -125,7 +126,9 @@ fn multipliers<T: Tableau>(
     requires rows { p.now.rows ≡ length (T.meaning tableau.now).table.basis }
     requires columns { columns p.now ≡ (T.meaning tableau.now).table.real }
     requires cost_row { cost_row < height (T.meaning tableau.now).table }
-    ensures { IfOk result (λ y. IsVector p.now.rows (multiplier_at (linear_of p.now) (T.meaning tableau.now).table cost_row) y.items) }
+    ensures { IfOk result
+        (λ y. IsVector p.now.rows
+        (multiplier_at (linear_of p.now) (T.meaning tableau.now).table cost_row) y.items) }
 {
     let mut y = Vec::new(alloc);
     for row in 0..p.rows {
@@ -142,7 +145,8 @@ fn multiplier<T: Tableau>(p: &Problem, cost_row: usize, row: usize, tableau: &T)
     requires columns { columns p.now ≡ (T.meaning tableau.now).table.real }
     requires cost_row { cost_row < height (T.meaning tableau.now).table }
     requires row { row < p.now.rows }
-    ensures { value result ≡ multiplier_at (linear_of p.now) (T.meaning tableau.now).table cost_row row }
+    ensures { value result
+        ≡ multiplier_at (linear_of p.now) (T.meaning tableau.now).table cost_row row }
 {
     let entry = tableau.entry(cost_row, p.columns.len() + row);
     if p.b[row] < 0 { entry } else { entry.neg() }
@@ -155,7 +159,9 @@ fn entry_of<T: Tableau>(col: usize, at: usize, m: usize, n: usize, tableau: &T) 
     requires columns { n ≡ (T.meaning tableau.now).table.real }
     requires small { m + n + 1 < 2 ^ 64 }
     requires place { at ≤ m + n }
-    ensures { value result ≡ entry_or_zero ℚ rationals (T.meaning tableau.now).table at (basic_row (T.meaning tableau.now).table col) }
+    ensures { value result
+        ≡ entry_or_zero ℚ rationals (T.meaning tableau.now).table at
+        (basic_row (T.meaning tableau.now).table col) }
 {
     match row_of(col, m, tableau) {
         None => Frac::whole(0),

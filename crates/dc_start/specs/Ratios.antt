@@ -33,7 +33,8 @@ abbrev pub better : Table ℚ → ℕ → ℕ → Option ℕ → Option ℕ
 better t j i o = tables.better ℚ rationals t j i o
 
 -- c is the better of the next row and the best before it
-pub record IsBetter (t : Table ℚ) (j : ℕ) (next : Candidate) (best : Option Candidate) (c : Candidate) : Type 0 where
+pub record IsBetter (t : Table ℚ) (j : ℕ) (next : Candidate) (best : Option Candidate)
+    (c : Candidate) : Type 0 where
   pub candidate : IsCandidate t j c
   pub row : Some c.row ≡ better t j next.row (row_of best)
 

@@ -24,7 +24,8 @@ pub fn quotient(x: Frac, by: Frac) -> Option<Frac>
 
 /// `y` less `factor * x`, at once where `x` is 0. Where `y` is 0 the product needs no sum.
 pub fn step(y: Frac, factor: Frac, x: Frac) -> Option<Frac>
-    ensures { IsChecked result (step_fits (value factor) (value x) (value y)) (value y -ℚ value factor *ℚ value x) }
+    ensures { IsChecked result (step_fits (value factor) (value x) (value y))
+        (value y -ℚ value factor *ℚ value x) }
 {
     if x.is_zero() {
         return Some(y);

@@ -1,5 +1,5 @@
-//! What each tableau computes, whatever holds its table: the numbers that it starts with, the comparison of quotients of the ratio test,
-//! and the arithmetic of a pivot on one entry.
+//! What each tableau computes, whatever holds its table: the numbers that it starts with, the
+//! comparison of quotients of the ratio test, and the arithmetic of a pivot on one entry.
 #![tactic(auto)]
 
 mod change;

@@ -24,8 +24,9 @@ pub fn start_basis(alloc: Global, m: usize, n: usize) -> Result<Vec<usize>, Allo
     Ok(basis)
 }
 
-/// The starting table's number in a row and a column: an equation whose right side is negative is negated, the artificial columns are
-/// units, the row of phase one is minus the sum of the equations, and that of phase two has the costs.
+/// The starting table's number in a row and a column: an equation whose right side is negative is
+/// negated, the artificial columns are units, the row of phase one is minus the sum of the
+/// equations, and that of phase two has the costs.
 pub fn first_value(p: &Problem, row: usize, col: usize) -> Frac
     requires well_formed { IsWellFormed p.now }
     requires row { row < p.now.rows + 2 }
@@ -56,7 +57,8 @@ fn minus_sum(p: &Problem, col: usize) -> i128
     total
 }
 
-/// The number of an equation in a column: the artificial columns are units, and an equation whose right side is negative is negated.
+/// The number of an equation in a column: the artificial columns are units, and an equation whose
+/// right side is negative is negated.
 fn first_entry(p: &Problem, row: usize, col: usize) -> i128
     requires well_formed { IsWellFormed p.now }
     requires row { row < p.now.rows }

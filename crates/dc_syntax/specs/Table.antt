@@ -30,7 +30,9 @@ Does (Tick e) s c t = (c ≡ value e s) × (t ≡ s)
 Does (Assume b) s c t = (truth b s ≡ true) × Stays s c t
 Does (If b A B) s c t = ((truth b s ≡ true) × Run A s c t) ⊎ ((truth b s ≡ false) × Run B s c t)
 Does (IfAny A B) s c t = Run A s c t ⊎ Run B s c t
-Does (While b A) s c t = ((truth b s ≡ false) × Stays s c t) ⊎ ((truth b s ≡ true) × Then (Run A) (One (While b A)) s c t)
+Does (While b A) s c t =
+    ((truth b s ≡ false) × Stays s c t)
+    ⊎ ((truth b s ≡ true) × Then (Run A) (One (While b A)) s c t)
 Does (WhileAny A) s c t = Stays s c t ⊎ Then (Run A) (One (WhileAny A)) s c t
 
 abbrev pub DoesAll : List Stmt → Moves

@@ -41,9 +41,18 @@ abbrev pub expr_step : List (List ℕ) → Expr-F Written → Written
 expr_step names (F.Num n) = record { text = decimal n; layer = Tight }
 expr_step names (F.Var k) = record { text = slice_index_or names k []; layer = Tight }
 expr_step names (F.Neg a) = record { text = codes "-" ++ expr_in Tight a; layer = Tight }
-expr_step names (F.Add a b) = record { text = a.text ++ (codes " + " ++ expr_in Middle b); layer = Loose }
-expr_step names (F.Sub a b) = record { text = a.text ++ (codes " - " ++ expr_in Middle b); layer = Loose }
-expr_step names (F.Mul a b) = record { text = expr_in Middle a ++ (codes " * " ++ expr_in Tight b); layer = Middle }
+expr_step names (F.Add a b) = record {
+  text = a.text ++ (codes " + " ++ expr_in Middle b);
+  layer = Loose;
+}
+expr_step names (F.Sub a b) = record {
+  text = a.text ++ (codes " - " ++ expr_in Middle b);
+  layer = Loose;
+}
+expr_step names (F.Mul a b) = record {
+  text = expr_in Middle a ++ (codes " * " ++ expr_in Tight b);
+  layer = Middle;
+}
 
 abbrev pub written_expr : List (List ℕ) → Expr → Written
 written_expr names e = fold-Expr Written (expr_step names) e
@@ -67,10 +76,19 @@ cond_in asked w = if is_within w.layer asked then w.text else in_squares w.text
 abbrev pub cond_step : List (List ℕ) → Cond-F Written → Written
 cond_step names G.True = record { text = codes "true"; layer = Tight }
 cond_step names G.False = record { text = codes "false"; layer = Tight }
-cond_step names (G.Cmp a r b) = record { text = expr_text names a ++ (rel_text r ++ expr_text names b); layer = Tight }
+cond_step names (G.Cmp a r b) = record {
+  text = expr_text names a ++ (rel_text r ++ expr_text names b);
+  layer = Tight;
+}
 cond_step names (G.Not c) = record { text = codes "!" ++ cond_in Tight c; layer = Tight }
-cond_step names (G.And c d) = record { text = cond_in Middle c ++ (codes " && " ++ cond_in Tight d); layer = Middle }
-cond_step names (G.Or c d) = record { text = c.text ++ (codes " || " ++ cond_in Middle d); layer = Loose }
+cond_step names (G.And c d) = record {
+  text = cond_in Middle c ++ (codes " && " ++ cond_in Tight d);
+  layer = Middle;
+}
+cond_step names (G.Or c d) = record {
+  text = c.text ++ (codes " || " ++ cond_in Middle d);
+  layer = Loose;
+}
 
 abbrev pub written_cond : List (List ℕ) → Cond → Written
 written_cond names c = fold-Cond Written (cond_step names) c
@@ -86,14 +104,22 @@ joined (t ∷ ts) = t ++ joined ts
 
 abbrev pub stmt_step : List (List ℕ) → Stmt-F (List ℕ) → List ℕ
 stmt_step names Skip = codes "skip;\n"
-stmt_step names (Assign k e) = slice_index_or names k [] ++ (codes " = " ++ (expr_text names e ++ codes ";\n"))
+stmt_step names (Assign k e) =
+    slice_index_or names k [] ++ (codes " = " ++ (expr_text names e ++ codes ";\n"))
 stmt_step names (AnyOf k) = slice_index_or names k [] ++ codes " = any;\n"
-stmt_step names (Between k a b) = slice_index_or names k [] ++ (codes " = any(" ++ (expr_text names a ++ (codes ", " ++ (expr_text names b ++ codes ");\n"))))
+stmt_step names (Between k a b) =
+    slice_index_or names k []
+    ++ (codes " = any(" ++ (expr_text names a
+    ++ (codes ", " ++ (expr_text names b ++ codes ");\n"))))
 stmt_step names (Tick e) = codes "tick " ++ (expr_text names e ++ codes ";\n")
 stmt_step names (Assume c) = codes "assume (" ++ (cond_text names c ++ codes ");\n")
-stmt_step names (If c A B) = codes "if (" ++ (cond_text names c ++ (codes ") {\n" ++ (joined A ++ (codes "} else {\n" ++ (joined B ++ codes "}\n")))))
-stmt_step names (IfAny A B) = codes "if (*) {\n" ++ (joined A ++ (codes "} else {\n" ++ (joined B ++ codes "}\n")))
-stmt_step names (While c A) = codes "while (" ++ (cond_text names c ++ (codes ") {\n" ++ (joined A ++ codes "}\n")))
+stmt_step names (If c A B) =
+    codes "if (" ++ (cond_text names c
+    ++ (codes ") {\n" ++ (joined A ++ (codes "} else {\n" ++ (joined B ++ codes "}\n")))))
+stmt_step names (IfAny A B) =
+    codes "if (*) {\n" ++ (joined A ++ (codes "} else {\n" ++ (joined B ++ codes "}\n")))
+stmt_step names (While c A) =
+    codes "while (" ++ (cond_text names c ++ (codes ") {\n" ++ (joined A ++ codes "}\n")))
 stmt_step names (WhileAny A) = codes "while (*) {\n" ++ (joined A ++ codes "}\n")
 
 abbrev pub stmt_text : List (List ℕ) → Stmt → List ℕ

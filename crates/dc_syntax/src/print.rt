@@ -24,7 +24,12 @@ pub fn print_proc(alloc: Global, p: &Proc) -> Result<Vec<u8>, AllocError>
 // The lines of the name, the parameters and the locals.
 #[tactic(auto, using(crate::proofs::Texts::regroup))]
 fn put_head(out: &mut String, p: &Proc) -> Result<(), AllocError>
-    ensures { OnOk result (string_bytes out.new ≡ string_bytes out.old ++ (codes "proc " ++ (p.now.name ++ (codes "(" ++ (listed (take p.now.params p.now.names) ++ (codes ") {\n" ++ locals_text (drop p.now.params p.now.names))))))) }
+    ensures { OnOk result
+        (string_bytes out.new
+        ≡ string_bytes out.old
+        ++ (codes "proc " ++ (p.now.name
+        ++ (codes "(" ++ (listed (take p.now.params p.now.names)
+        ++ (codes ") {\n" ++ locals_text (drop p.now.params p.now.names))))))) }
 {
     out.push_str("proc ")?;
     out.push_str(p.name.as_str())?;
@@ -36,7 +41,8 @@ fn put_head(out: &mut String, p: &Proc) -> Result<(), AllocError>
 
 #[tactic(auto, using(crate::proofs::Texts::regroup))]
 fn put_locals(out: &mut String, names: &[String]) -> Result<(), AllocError>
-    ensures { OnOk result (string_bytes out.new ≡ string_bytes out.old ++ locals_text (map string_bytes names.now)) }
+    ensures { OnOk result
+        (string_bytes out.new ≡ string_bytes out.old ++ locals_text (map string_bytes names.now)) }
 {
     if names.is_empty() {
         return Ok(());
@@ -49,7 +55,8 @@ fn put_locals(out: &mut String, names: &[String]) -> Result<(), AllocError>
 // Names with a comma and a space between.
 #[tactic(auto, using(crate::proofs::Texts::regroup))]
 fn put_names(out: &mut String, names: &[String]) -> Result<(), AllocError>
-    ensures { OnOk result (string_bytes out.new ≡ string_bytes out.old ++ listed (map string_bytes names.now)) }
+    ensures { OnOk result
+        (string_bytes out.new ≡ string_bytes out.old ++ listed (map string_bytes names.now)) }
 {
     match names {
         [] => Ok(()),
@@ -64,7 +71,9 @@ fn put_names(out: &mut String, names: &[String]) -> Result<(), AllocError>
 
 // The name at a place.
 fn put_name(out: &mut String, names: &[String], place: usize) -> Result<(), AllocError>
-    ensures { OnOk result (string_bytes out.new ≡ string_bytes out.old ++ slice_index_or (map string_bytes names.now) place []) }
+    ensures { OnOk result
+        (string_bytes out.new
+        ≡ string_bytes out.old ++ slice_index_or (map string_bytes names.now) place []) }
 {
     match names.get(place) {
         Some(name) => out.push_str(name.as_str()),
@@ -85,7 +94,9 @@ fn layer_of(e: &Expr, names: &[String]) -> Layer
 // An expression where a layer is asked: in brackets where it binds less tightly.
 #[tactic(auto, using(crate::proofs::Texts::regroup))]
 fn put_expr(out: &mut String, names: &[String], e: &Expr, asked: Layer) -> Result<(), AllocError>
-    ensures { OnOk result (string_bytes out.new ≡ string_bytes out.old ++ expr_in asked (written_expr (map string_bytes names.now) e.now)) }
+    ensures { OnOk result
+        (string_bytes out.new
+        ≡ string_bytes out.old ++ expr_in asked (written_expr (map string_bytes names.now) e.now)) }
 {
     if !layer_of(e, names).is_within(asked) {
         out.push_str("(")?;
@@ -143,7 +154,9 @@ fn rel_word(rel: Rel) -> &'static str
 // A condition where a layer is asked: in brackets where it binds less tightly.
 #[tactic(auto, using(crate::proofs::Texts::regroup))]
 fn put_cond(out: &mut String, names: &[String], c: &Cond, asked: Layer) -> Result<(), AllocError>
-    ensures { OnOk result (string_bytes out.new ≡ string_bytes out.old ++ cond_in asked (written_cond (map string_bytes names.now) c.now)) }
+    ensures { OnOk result
+        (string_bytes out.new
+        ≡ string_bytes out.old ++ cond_in asked (written_cond (map string_bytes names.now) c.now)) }
 {
     if !cond_layer_of(c, names).is_within(asked) {
         out.push_str("[")?;
@@ -179,7 +192,9 @@ fn put_cond(out: &mut String, names: &[String], c: &Cond, asked: Layer) -> Resul
 #[cycle(statements)]
 #[tactic(auto, using(crate::proofs::Texts::regroup))]
 fn put_stmt(out: &mut String, names: &[String], s: &Stmt) -> Result<(), AllocError>
-    ensures { OnOk result (string_bytes out.new ≡ string_bytes out.old ++ stmt_text (map string_bytes names.now) s.now) }
+    ensures { OnOk result
+        (string_bytes out.new
+        ≡ string_bytes out.old ++ stmt_text (map string_bytes names.now) s.now) }
 {
     match s {
         Stmt::Skip => out.push_str("skip;\n"),
@@ -226,7 +241,11 @@ fn put_stmt(out: &mut String, names: &[String], s: &Stmt) -> Result<(), AllocErr
 
 #[tactic(auto, using(crate::proofs::Texts::regroup))]
 fn put_assign(out: &mut String, names: &[String], place: usize, e: &Expr) -> Result<(), AllocError>
-    ensures { OnOk result (string_bytes out.new ≡ string_bytes out.old ++ (slice_index_or (map string_bytes names.now) place [] ++ (codes " = " ++ (expr_text (map string_bytes names.now) e.now ++ codes ";\n")))) }
+    ensures { OnOk result
+        (string_bytes out.new
+        ≡ string_bytes out.old
+        ++ (slice_index_or (map string_bytes names.now) place []
+        ++ (codes " = " ++ (expr_text (map string_bytes names.now) e.now ++ codes ";\n")))) }
 {
     put_name(out, names, place)?;
     out.push_str(" = ")?;
@@ -242,7 +261,12 @@ fn put_between(
     a: &Expr,
     b: &Expr,
 ) -> Result<(), AllocError>
-    ensures { OnOk result (string_bytes out.new ≡ string_bytes out.old ++ (slice_index_or (map string_bytes names.now) place [] ++ (codes " = any(" ++ (expr_text (map string_bytes names.now) a.now ++ (codes ", " ++ (expr_text (map string_bytes names.now) b.now ++ codes ");\n")))))) }
+    ensures { OnOk result
+        (string_bytes out.new
+        ≡ string_bytes out.old
+        ++ (slice_index_or (map string_bytes names.now) place []
+        ++ (codes " = any(" ++ (expr_text (map string_bytes names.now) a.now
+        ++ (codes ", " ++ (expr_text (map string_bytes names.now) b.now ++ codes ");\n")))))) }
 {
     put_name(out, names, place)?;
     out.push_str(" = any(")?;
@@ -256,7 +280,9 @@ fn put_between(
 #[cycle(statements)]
 #[tactic(auto, using(crate::proofs::Texts::regroup))]
 fn put_block(out: &mut String, names: &[String], body: &[Stmt], end: &str) -> Result<(), AllocError>
-    ensures { OnOk result (string_bytes out.new ≡ string_bytes out.old ++ (stmts_text (map string_bytes names.now) body.now ++ end.now)) }
+    ensures { OnOk result
+        (string_bytes out.new
+        ≡ string_bytes out.old ++ (stmts_text (map string_bytes names.now) body.now ++ end.now)) }
 {
     for statement in body {
         put_stmt(out, names, statement)?;

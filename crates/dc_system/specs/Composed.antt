@@ -22,7 +22,10 @@ coef_at cs vs u = dot_ℤ cs (map (λ (v : Polynomial). coef v.terms u) vs)
 
 -- an atom at affine values, of m places: its left side with the values in it
 abbrev pub atom_at : ℕ → Atom → List Polynomial → Atom
-atom_at m a vs = record { c0 = a.c0 +ℤ coef_at a.coefs vs (zeros m); coefs = map (coef_at a.coefs vs) (units m) }
+atom_at m a vs = record {
+  c0 = a.c0 +ℤ coef_at a.coefs vs (zeros m);
+  coefs = map (coef_at a.coefs vs) (units m);
+}
 
 abbrev pub atoms_at : ℕ → List Atom → List Polynomial → List Atom
 atoms_at m gs vs = map (λ a. atom_at m a vs) gs
@@ -64,10 +67,16 @@ abbrev pub forms_fit : List Polynomial → Bool
 forms_fit [] = true
 forms_fit (p ∷ ps) = form_fits p && forms_fit ps
 
--- at most one of them chooses, the first updates affinely, and guard, updates and cost of the whole are within their bounds
+-- at most one of them chooses, the first updates affinely, and guard, updates and cost of the whole
+-- are within their bounds
 abbrev pub can_compose : ℕ → Edge → Edge → Bool
 can_compose n e f =
-    not (e.any && f.any) && (all_flat e.update && (leb (length e.guard + length f.guard) 256 && (atoms_fit (atoms_at (n + 1) f.guard (after n e)) && (forms_fit (forms_at f.update (after n e)) && form_fits (sum_of e.cost (composition_of f.cost (after n e)))))))
+    not (e.any && f.any)
+      && (all_flat e.update
+      && (leb (length e.guard + length f.guard) 256
+      && (atoms_fit (atoms_at (n + 1) f.guard (after n e))
+      && (forms_fit (forms_at f.update (after n e))
+      && form_fits (sum_of e.cost (composition_of f.cost (after n e)))))))
 
 abbrev pub compose_of : ℕ → Edge → Edge → Option Edge
 compose_of n e f = if can_compose n e f then Some (composed n e f) else None

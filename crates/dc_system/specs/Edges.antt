@@ -1,4 +1,5 @@
--- The edges of a procedure's graph over n variables and the chosen value, which is the last of n + 1 places.
+-- The edges of a procedure's graph over n variables and the chosen value, which is the last of n +
+-- 1 places.
 use Rattle.std.specs.Prelude.{ℕ, zero, suc, ◌+◌, List, [], ◌∷◌, ◌++◌, map, slice_set, Bool, true, false, pos}
 use Rattle.dc_syntax.specs.declared.tree.Expr.TheVariants.{Var}
 use Rattle.dc_poly.specs.Terms.{Polynomial}
@@ -26,7 +27,8 @@ abbrev pub guard_of : ℕ → Label → List Atom
 guard_of n idle = []
 guard_of n (sets x e) = []
 guard_of n (picks x) = []
-guard_of n (picks_in x a b) = atom_of (n + 1) (fact (Var n) a 0) ∷ atom_of (n + 1) (fact b (Var n) 0) ∷ []
+guard_of n (picks_in x a b) =
+    atom_of (n + 1) (fact (Var n) a 0) ∷ atom_of (n + 1) (fact b (Var n) 0) ∷ []
 guard_of n (pays e) = []
 guard_of n (tests f) = map (atom_of (n + 1)) f
 
@@ -69,14 +71,28 @@ edge_of n a = record {
 
 -- an edge that only tests
 abbrev pub test_edge : ℕ → ℕ → ℕ → List Atom → Edge
-test_edge n k l g = record { from = k; to = l; guard = g; update = unchanged n; any = false; cost = free n }
+test_edge n k l g = record {
+  from = k;
+  to = l;
+  guard = g;
+  update = unchanged n;
+  any = false;
+  cost = free n;
+}
 
 abbrev pub test_edges : ℕ → ℕ → ℕ → List (List Atom) → List Edge
 test_edges n k l gs = map (test_edge n k l) gs
 
 -- an edge that gives one variable a value
 abbrev pub set_edge : ℕ → ℕ → ℕ → List Atom → ℕ → Polynomial → Bool → Edge
-set_edge n k l g x p a = record { from = k; to = l; guard = g; update = slice_set (unchanged n) x p; any = a; cost = free n }
+set_edge n k l g x p a = record {
+  from = k;
+  to = l;
+  guard = g;
+  update = slice_set (unchanged n) x p;
+  any = a;
+  cost = free n;
+}
 
 -- an edge that only costs
 abbrev pub cost_edge : ℕ → ℕ → ℕ → Polynomial → Edge

@@ -26,15 +26,19 @@ fold_at n x es l = if eqb l 0 || eqb l x then None else joint n l (into l es) (o
 
 -- the composed edge in the place of the edge in, the edge out taken away
 abbrev pub folded : ℕ → Edge → List Edge → List Edge
-folded l c es = filter (λ (e : Edge). not (eqb e.from l)) (map (λ (e : Edge). if eqb e.to l then c else e) es)
+folded l c es =
+    filter (λ (e : Edge). not (eqb e.from l)) (map (λ (e : Edge). if eqb e.to l then c else e) es)
 
 abbrev pub without : ℕ → List ℕ → List ℕ
 without l left = filter (λ k. not (eqb k l)) left
 
--- from the locations and edges at the start, by folding the least foldable location again and again, to those that are left
+-- from the locations and edges at the start, by folding the least foldable location again and
+-- again, to those that are left
 pub data Folding (n x : ℕ) (start : List ℕ) (begun : List Edge) : List ℕ → List Edge → Type 0 where
   unfolded : Folding n x start begun start begun
-  fold_least : {left : List ℕ} {es : List Edge} → Folding n x start begun left es → (l : ℕ) (c : Edge) → fold_at n x es l ≡ Some c → ((k : ℕ) → k < l → fold_at n x es k ≡ None) → Folding n x start begun (without l left) (folded l c es)
+  fold_least : {left : List ℕ} {es : List Edge} → Folding n x start begun left es
+      → (l : ℕ) (c : Edge) → fold_at n x es l ≡ Some c → ((k : ℕ) → k < l → fold_at n x es k ≡ None)
+      → Folding n x start begun (without l left) (folded l c es)
 
 abbrev pub numbers_below : ℕ → List ℕ
 numbers_below zero = []
@@ -55,10 +59,12 @@ renumbered left e = record {
   cost = e.cost;
 }
 
--- t is s folded: nothing is left to fold, the locations are numbered anew in their order, the edges keep theirs
+-- t is s folded: nothing is left to fold, the locations are numbered anew in their order, the edges
+-- keep theirs
 pub record IsFolded (s t : System) : Type 0 where
   pub left : List ℕ
   pub edges : List Edge
   pub folding : Folding s.vars (s.locs - 1) (numbers_below s.locs) s.edges left edges
   pub ended : (l : ℕ) → fold_at s.vars (s.locs - 1) edges l ≡ None
-  pub is : t ≡ record { vars = s.vars; params = s.params; locs = length left; edges = map (renumbered left) edges; literals = s.literals }
+  pub is : t ≡ record { vars = s.vars; params = s.params; locs = length left;
+      edges = map (renumbered left) edges; literals = s.literals }

@@ -8,4 +8,5 @@ pub record CanDiffer (p q : Polynomial) : Type 0 where
   pub same_places : q.places ≡ p.places
   pub kinds : IsPolynomial p × IsPolynomial q
   pub narrow : IsNormalForm p.terms × IsNormalForm q.terms
-  pub small : (m : Exponents) → unsigned_abs (coef p.terms m) + unsigned_abs (coef q.terms m) ≤ 2147483648
+  pub small : (m : Exponents)
+      → unsigned_abs (coef p.terms m) + unsigned_abs (coef q.terms m) ≤ 2147483648

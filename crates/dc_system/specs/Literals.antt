@@ -56,7 +56,8 @@ numbers_of (S ∷ R) = stmt_numbers S ++ numbers_of R
 -- ---- rising, each once
 abbrev pub with_number : ℕ → List ℕ → List ℕ
 with_number k [] = k ∷ []
-with_number k (x ∷ xs) = if ltb k x then k ∷ x ∷ xs else (if eqb k x then x ∷ xs else x ∷ with_number k xs)
+with_number k (x ∷ xs) =
+    if ltb k x then k ∷ x ∷ xs else (if eqb k x then x ∷ xs else x ∷ with_number k xs)
 
 -- one after another, into those that are there
 abbrev pub with_numbers : List ℕ → List ℕ → List ℕ

@@ -8,7 +8,8 @@ use Rattle.dc_affine.specs.Atoms.{IsAtom, AllAtoms}
 use Rattle.dc_system.specs.declared.edges.Edge.{Edge}
 use Rattle.dc_system.specs.declared.edges.System.{System}
 
--- a polynomial of so many places, of a degree of at most 2 and with coefficients of at most 2147483647 in size
+-- a polynomial of so many places, of a degree of at most 2 and with coefficients of at most
+-- 2147483647 in size
 pub record IsForm (places : ℕ) (p : Polynomial) : Type 0 where
   pub has_places : p.places ≡ places
   pub kind : IsPolynomial p

@@ -14,7 +14,9 @@ IsOnly passing es (Some k) = (k < length es) × ((d : Edge) → passing ≡ get_
 
 -- a foldable location, with the place of the edge into it and the composed edge
 abbrev pub IsSpot : ℕ → ℕ → List Edge → Spot → Type 0
-IsSpot n x es s = (fold_at n x es s.location ≡ Some s.edge) × (s.place < length es) × ((d : Edge) → into s.location es ≡ get_or es s.place d ∷ [])
+IsSpot n x es s =
+    (fold_at n x es s.location ≡ Some s.edge) × (s.place < length es)
+    × ((d : Edge) → into s.location es ≡ get_or es s.place d ∷ [])
 
 abbrev pub IsSpotAt : ℕ → ℕ → List Edge → ℕ → Option Spot → Type 0
 IsSpotAt n x es l None = fold_at n x es l ≡ None

@@ -51,7 +51,9 @@ fn atom_with(
     requires few { places ≤ 11 }
     requires sized { IsAtom places atom.now }
     requires values { AllByRecursion IsSmall values.now }
-    ensures { IfOk result (λ o. o ≡ (if atom_fits (atom_at places atom.now values.now) then Some (atom_at places atom.now values.now) else None)) }
+    ensures { IfOk result
+        (λ o. o ≡ (if atom_fits (atom_at places atom.now values.now) then Some
+        (atom_at places atom.now values.now) else None)) }
 {
     let coefs = atom.coefs.as_slice();
     let one = Mono::one(alloc, places)?;
@@ -111,7 +113,9 @@ pub(crate) fn guard_with(
     requires few { places ≤ 11 }
     requires sized { AllAtoms (IsAtom places) second.now }
     requires values { AllByRecursion IsSmall values.now }
-    ensures { IfOk result (λ o. IsGuard (atoms_fit (atoms_at places second.now values.now)) (first.now ++ atoms_at places second.now values.now) o) }
+    ensures { IfOk result
+        (λ o. IsGuard (atoms_fit (atoms_at places second.now values.now))
+        (first.now ++ atoms_at places second.now values.now) o) }
 {
     let mut guard = Vec::new(alloc);
     for atom in first {

@@ -97,7 +97,9 @@ fn forms_with(
 ) -> Result<Option<Vec<Poly>>, AllocError>
     requires forms { AllByRecursion (IsForm places) forms.now }
     requires values { AreValues places values.now }
-    ensures { IfOk result (λ o. AreForms (forms_fit (forms_at forms.now values.now)) (forms_at forms.now values.now) o) }
+    ensures { IfOk result
+        (λ o. AreForms (forms_fit (forms_at forms.now values.now))
+        (forms_at forms.now values.now) o) }
 {
     let mut all = Vec::new(alloc);
     for form in forms {
@@ -130,12 +132,15 @@ fn cost_with(
 
 /// The first edge and then the second one, as one edge over so many variables.
 ///
-/// It goes from where the first does to where the second does. Its guard is the first one's, then the second one's after the first
-/// one's update; its update and its cost are likewise. It has a chosen value where either has one. `None` comes exactly where both have
-/// one, where the first one's update has degree 2, where the guard would have more than 256 atoms or one past the sizes of an atom, or
-/// where an update or the cost would have a degree above 2 or a coefficient above 2147483647 in size.
+/// It goes from where the first does to where the second does. Its guard is the first one's, then
+/// the second one's after the first one's update; its update and its cost are likewise. It has a
+/// chosen value where either has one. `None` comes exactly where both have one, where the first
+/// one's update has degree 2, where the guard would have more than 256 atoms or one past the sizes
+/// of an atom, or where an update or the cost would have a degree above 2 or a coefficient above
+/// 2147483647 in size.
 ///
-/// Along it one gets, at the same cost, exactly where one gets along the first edge and then the second.
+/// Along it one gets, at the same cost, exactly where one gets along the first edge and then the
+/// second.
 #[tactic(auto, using(crate::proofs::Composing::composing))]
 pub fn compose(
     alloc: Global,
@@ -149,7 +154,9 @@ pub fn compose(
     requires second { IsEdge vars second.now }
     ensures edge { IfOk result (λ o. o ≡ compose_of vars first.now second.now) }
     ensures kept { IfOk result (λ o. IfSome o (λ e. IsEdge vars e)) }
-    ensures crosses { IfOk result (λ o. IfSome o (λ e. (s : State) (c : ℤ) (t : State) → length s ≡ vars → Crosses e s c t ↔ Then (Crosses first.now) (Crosses second.now) s c t)) }
+    ensures crosses { IfOk result
+        (λ o. IfSome o (λ e. (s : State) (c : ℤ) (t : State) → length s ≡ vars → Crosses e s c t
+        ↔ Then (Crosses first.now) (Crosses second.now) s c t)) }
 {
     let composed = composed(alloc, first, second, vars)?;
     Ok(composed)

@@ -8,8 +8,9 @@ use thiserror::Error;
 
 /// An edge between two locations.
 ///
-/// Its polynomials have one place for each variable and a last one for the value that the edge chooses. It may be taken in a state,
-/// with a chosen value, where its guard holds there; it then costs its cost and leads to its updates, all of them taken there.
+/// Its polynomials have one place for each variable and a last one for the value that the edge
+/// chooses. It may be taken in a state, with a chosen value, where its guard holds there; it then
+/// costs its cost and leads to its updates, all of them taken there.
 #[derive(Drop)]
 pub struct Edge {
     pub from: usize,
@@ -22,7 +23,8 @@ pub struct Edge {
     pub cost: Poly,
 }
 
-/// A transition system over the variables of a procedure, the first `params` of which are its parameters.
+/// A transition system over the variables of a procedure, the first `params` of which are its
+/// parameters.
 ///
 /// Location 0 is the entry, the last one the exit.
 #[derive(Drop)]

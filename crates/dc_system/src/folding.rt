@@ -132,11 +132,13 @@ fn keep_others(left: &mut Vec<usize>, location: usize)
     left.retain(|k| *k != location);
 }
 
-// Puts the composed edge in the place of the edge in, takes the edge out away, and the location with it.
+// Puts the composed edge in the place of the edge in, takes the edge out away, and the location
+// with it.
 #[tactic(auto, using(crate::proofs::Spotting::folding_out))]
 fn fold_out(edges: &mut Vec<Edge>, left: &mut Vec<usize>, spot: Spot)
     requires place { spot.place < length edges.old.items }
-    requires only { (d : EdgeRecord) → into spot.location edges.old.items ≡ get_or edges.old.items spot.place d ∷ [] }
+    requires only { (d : EdgeRecord)
+        → into spot.location edges.old.items ≡ get_or edges.old.items spot.place d ∷ [] }
     ensures edges { edges.new.items ≡ folded spot.location spot.edge edges.old.items }
     ensures left { left.new.items ≡ without spot.location left.old.items }
 {
@@ -162,7 +164,8 @@ fn fold_all(
     requires few { vars ≤ 10 }
     requires few_locations { exit < 128 }
     requires net { Net vars exit left.old.items edges.old.items }
-    ensures folding { OnOk result (Folding vars exit left.old.items edges.old.items left.new.items edges.new.items) }
+    ensures folding { OnOk result
+        (Folding vars exit left.old.items edges.old.items left.new.items edges.new.items) }
     ensures ended { OnOk result ((l : ℕ) → edge_at vars exit edges.new.items l ≡ None) }
 {
     'folds: while let Some(spot) = least(alloc, edges.as_slice(), vars, exit)? {
@@ -300,10 +303,11 @@ fn folded_system(alloc: Global, s: &System) -> Result<System, AllocError>
 
 /// The system with locations folded into the edge before them.
 ///
-/// A location is foldable where it is neither the entry nor the exit, has exactly one edge in and exactly one edge out, neither of which
-/// goes from it to itself, and the two have a composed edge ([`compose`]). That edge then takes the place of the edge in, and the edge
-/// out is taken away. The least foldable location is folded again and again until there is none; then the locations that are left are
-/// numbered anew in their order, and the edges keep their order.
+/// A location is foldable where it is neither the entry nor the exit, has exactly one edge in and
+/// exactly one edge out, neither of which goes from it to itself, and the two have a composed edge
+/// ([`compose`]). That edge then takes the place of the edge in, and the edge out is taken away.
+/// The least foldable location is folded again and again until there is none; then the locations
+/// that are left are numbered anew in their order, and the edges keep their order.
 ///
 /// From each state the paths from location 0 to the exit are exactly those of the system that was lent.
 #[tactic(auto, using(crate::proofs::FoldSteps::folded_laws))]
@@ -311,7 +315,9 @@ pub fn fold(alloc: Global, s: &System) -> Result<System, AllocError>
     requires { IsWellFormed s.now }
     ensures folded { IfOk result (λ t. IsFolded s.now t) }
     ensures well_formed { IfOk result (λ t. IsWellFormed t) }
-    ensures paths { IfOk result (λ t. (x : State) (c : ℤ) (y : State) → length x ≡ s.now.vars → Through t x c y ↔ Through s.now x c y) }
+    ensures paths { IfOk result
+        (λ t. (x : State) (c : ℤ) (y : State) → length x ≡ s.now.vars → Through t x c y
+        ↔ Through s.now x c y) }
 {
     let folded = folded_system(alloc, s)?;
     Ok(folded)

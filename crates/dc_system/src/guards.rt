@@ -49,7 +49,8 @@ pub(crate) fn atom(alloc: Global, form: &Poly) -> Result<Atom, AllocError>
 #[tactic(auto, using(crate::proofs::Differences::differences))]
 fn difference(alloc: Global, big: &Poly, small: &Poly) -> Result<Atom, AllocError>
     requires { CanDiffer big.now small.now }
-    ensures { IfOk result (λ a. a ≡ at_least big.now.places (plus big.now.terms (negated small.now.terms)) 0) }
+    ensures { IfOk result
+        (λ a. a ≡ at_least big.now.places (plus big.now.terms (negated small.now.terms)) 0) }
 {
     let negation = small.neg(alloc)?;
     let gap = big.add(alloc, &negation)?;
@@ -67,7 +68,9 @@ pub(crate) fn between(
     requires few { vars ≤ 10 }
     requires below { (is_below vars a.now ≡ true) × (is_below vars b.now ≡ true) }
     requires passes { (affine_fault vars a.now ≡ None) × (affine_fault vars b.now ≡ None) }
-    ensures { IfOk result (λ v. v.items ≡ atom_of (vars + 1) (fact (Var vars) a.now 0) ∷ atom_of (vars + 1) (fact b.now (Var vars) 0) ∷ []) }
+    ensures { IfOk result
+        (λ v. v.items ≡ atom_of (vars + 1) (fact (Var vars) a.now 0)
+        ∷ atom_of (vars + 1) (fact b.now (Var vars) 0) ∷ []) }
 {
     let low = bound(alloc, a, vars)?;
     let high = bound(alloc, b, vars)?;

@@ -1,4 +1,5 @@
-//! Transition systems: a procedure as numbered locations with edges between them, whose paths are the runs.
+//! Transition systems: a procedure as numbered locations with edges between them, whose paths are
+//! the runs.
 #![tactic(auto)]
 
 mod atoms;

@@ -73,7 +73,8 @@ fn of_cond(literals: &mut Vec<u32>, c: &Cond) -> Result<(), AllocError>
 #[cycle(literals)]
 #[tactic(auto, using(crate::proofs::Rising::gathering))]
 fn of_statement(literals: &mut Vec<u32>, statement: &Stmt) -> Result<(), AllocError>
-    ensures { OnOk result (literals.new.items ≡ with_numbers literals.old.items (stmt_numbers statement.now)) }
+    ensures { OnOk result
+        (literals.new.items ≡ with_numbers literals.old.items (stmt_numbers statement.now)) }
 {
     match statement {
         Stmt::Skip => Ok(()),

@@ -60,7 +60,8 @@ fn branch(
     guards: Vec<Vec<Atom>>,
 ) -> Result<(), AllocError>
     requires { vars ≤ 10 }
-    ensures { OnOk result (out.new.items ≡ out.old.items ++ test_edges vars from to (cases_of guards.items)) }
+    ensures { OnOk result
+        (out.new.items ≡ out.old.items ++ test_edges vars from to (cases_of guards.items)) }
 {
     for guard in guards {
         out.push(test(alloc, vars, from, to, guard)?)?;
@@ -166,7 +167,9 @@ fn place(
     requires few { vars ≤ 10 }
     requires passes { statement_passes vars statement.now ≡ true }
     requires within { at + (piece statement.now).size ≤ 128 }
-    ensures { OnOk result (out.new.items ≡ out.old.items ++ map (edge_of vars) ((piece statement.now).place at next)) }
+    ensures { OnOk result
+        (out.new.items ≡ out.old.items
+        ++ map (edge_of vars) ((piece statement.now).place at next)) }
 {
     match statement {
         Stmt::Assume(c) => branch(alloc, out, vars, at, next, cases(alloc, c, false, vars)?),
@@ -220,7 +223,8 @@ pub(crate) fn place_all(
     requires few { vars ≤ 10 }
     requires passes { all_pass vars body.now ≡ true }
     requires within { at + sizes (pieces body.now) ≤ 128 }
-    ensures { OnOk result (out.new.items ≡ out.old.items ++ map (edge_of vars) (placed (pieces body.now) at next)) }
+    ensures { OnOk result
+        (out.new.items ≡ out.old.items ++ map (edge_of vars) (placed (pieces body.now) at next)) }
 {
     let mut number = at;
     for i in 0..body.len() {

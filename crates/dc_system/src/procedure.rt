@@ -56,11 +56,14 @@ fn made(alloc: Global, p: &Proc) -> Result<System, SystemFault>
     })
 }
 
-/// The system of a procedure: one location before each statement, numbered in preorder from 0, and the exit.
+/// The system of a procedure: one location before each statement, numbered in preorder from 0, and
+/// the exit.
 ///
-/// The procedure is a program as the parser gives it (`dc_program`): its names differ and are at most 10, parameters first, its literals,
-/// operators, forms and conditions are within their bounds. `TooLarge` comes with `Locations` exactly where the statements and the exit
-/// are more than 128, else with `Edges` exactly where the edges are more than 512. A count past 64 bits stands at 2^64 - 1.
+/// The procedure is a program as the parser gives it (`dc_program`): its names differ and are at
+/// most 10, parameters first, its literals, operators, forms and conditions are within their
+/// bounds. `TooLarge` comes with `Locations` exactly where the statements and the exit are more
+/// than 128, else with `Edges` exactly where the edges are more than 512. A count past 64 bits
+/// stands at 2^64 - 1.
 ///
 /// From each state the paths from location 0 to the exit are exactly the finished runs of the body.
 #[tactic(auto, using(crate::proofs::Built::building))]
@@ -70,7 +73,9 @@ pub fn build(alloc: Global, p: &Proc) -> Result<System, SystemFault>
     ensures within { IfOk result (λ s. size_fault p.now ≡ None) }
     ensures fault { IfErr result (λ f. (f ≡ NoMemory) ⊎ (size_fault p.now ≡ Some f)) }
     ensures well_formed { IfOk result (λ s. IsWellFormed s) }
-    ensures paths { IfOk result (λ s. (x : State) (c : ℤ) (t : State) → length x ≡ s.vars → Through s x c t ↔ Run p.now.body x c t) }
+    ensures paths { IfOk result
+        (λ s. (x : State) (c : ℤ) (t : State) → length x ≡ s.vars → Through s x c t
+        ↔ Run p.now.body x c t) }
 {
     let system = made(alloc, p)?;
     Ok(system)

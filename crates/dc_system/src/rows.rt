@@ -17,13 +17,15 @@ use dc_poly::{Mono, Poly};
 use sqlite_items::Items;
 use std::alloc::{AllocError, Global};
 
-/// A linear form over a program's variables, after an edge's update: what is affine of it, and whether that is the whole.
+/// A linear form over a program's variables, after an edge's update: what is affine of it, and
+/// whether that is the whole.
 #[derive(Debug, Drop)]
 pub struct RowAfter {
     pub constant: i128,
     /// One for each variable, and a last one for the value that the edge chooses.
     pub coefs: Items<i128>,
-    /// Whether the form is affine after the update. Then it is the constant and the sum of the coefficients times the places.
+    /// Whether the form is affine after the update. Then it is the constant and the sum of the
+    /// coefficients times the places.
     pub is_affine: bool,
 }
 
@@ -45,7 +47,9 @@ fn plus_times(alloc: Global, sum: &Poly, coef: &i64, value: &Poly) -> Result<Pol
     requires value { IsForm sum.now.places value.now }
     ensures kind { IfOk result (λ p. IsPolynomial p) }
     ensures places { IfOk result (λ p. p.places ≡ sum.now.places) }
-    ensures coefs { IfOk result (λ p. (u : Exponents) → coef_of p.terms u ≡ coef_of sum.now.terms u +ℤ coef.now *ℤ coef_of value.now.terms u) }
+    ensures coefs { IfOk result
+        (λ p. (u : Exponents)
+        → coef_of p.terms u ≡ coef_of sum.now.terms u +ℤ coef.now *ℤ coef_of value.now.terms u) }
     ensures light { IfOk result (λ p. weight p.terms ≤ weight sum.now.terms + most * (78 * most)) }
 {
     let factor = factor(alloc, coef, sum.places())?;
@@ -103,9 +107,10 @@ fn coefficients(alloc: Global, form: &Poly) -> Result<Vec<i128>, AllocError>
 
 /// A linear form over so many variables after an edge's update.
 ///
-/// It is affine after the update where its value is, as a whole: x - y is affine after x := n * n, y := n * n, though its parts are not.
-/// The constant and the coefficients are those of the sum, in 128 bits. An atom after the update is the form of its coefficients after it,
-/// with the atom's constant added.
+/// It is affine after the update where its value is, as a whole: x - y is affine after x := n * n,
+/// y := n * n, though its parts are not. The constant and the coefficients are those of the sum, in
+/// 128 bits. An atom after the update is the form of its coefficients after it, with the atom's
+/// constant added.
 pub fn row_after(
     alloc: Global,
     edge: &Edge,
@@ -117,7 +122,9 @@ pub fn row_after(
     requires short { length row.now ≤ vars }
     requires row { AllFit row.now }
     ensures row { IfOk result (λ r. r ≡ row_after_of vars edge.now row.now) }
-    ensures value { IfOk result (λ r. r.is_affine ≡ true → (x : List ℤ) → r.constant +ℤ dot_ℤ r.coefs x ≡ dot_ℤ row.now (values_at edge.now.update x)) }
+    ensures value { IfOk result
+        (λ r. r.is_affine ≡ true → (x : List ℤ)
+        → r.constant +ℤ dot_ℤ r.coefs x ≡ dot_ℤ row.now (values_at edge.now.update x)) }
 {
     let sum = sum_of(alloc, row, edge.update.as_slice(), vars + 1)?;
     let coefs = coefficients(alloc, &sum)?;

@@ -62,8 +62,8 @@ impl Table {
         Ok(())
     }
 
-    /// The problem: the columns of the unknowns, then those of the multipliers; the threshold, which is the
-    /// first unknown, costs itself.
+    /// The problem: the columns of the unknowns, then those of the multipliers; the threshold,
+    /// which is the first unknown, costs itself.
     pub fn into_problem(self, alloc: Global) -> Result<Problem, AllocError>
         requires { 2 ≤ length self.unknowns.items }
         ensures { IfOk result (IsProblemOf self) }

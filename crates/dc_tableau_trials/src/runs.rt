@@ -88,8 +88,9 @@ fn optima(rt: HostRuntime) -> Result<(), Fail> {
     Ok(())
 }
 
-// Row 0 is tied in the second problem, and the third has an equation that is the sum of the others; drive-out alone makes the pivot of the
-// fourth; the fifth goes through degenerate tables; the sixth is a main problem whose numbers are all 0.
+// Row 0 is tied in the second problem, and the third has an equation that is the sum of the others;
+// drive-out alone makes the pivot of the fourth; the fifth goes through degenerate tables; the
+// sixth is a main problem whose numbers are all 0.
 #[test]
 fn longer_runs(rt: HostRuntime) -> Result<(), Fail> {
     let alloc = rt.alloc();

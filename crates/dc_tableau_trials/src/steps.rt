@@ -1,4 +1,5 @@
-//! Runs pivot by pivot: both tableaux are alike at each step, and the sparse one has a node for each entry that isn't 0.
+//! Runs pivot by pivot: both tableaux are alike at each step, and the sparse one has a node for
+//! each entry that isn't 0.
 #![tactic(auto, using(crate::proofs::Sizes::sizes))]
 
 ghost use Rattle.std.specs.Prelude.{◌≡◌, ◌+◌, ◌<◌, ◌^◌, OnOk};
@@ -23,7 +24,8 @@ pub(crate) fn load<T: Tableau>(tableau: &mut T, p: &Problem) -> Result<(), Alloc
     tableau.load(p)
 }
 
-/// Makes room for the pivot at a place, which is an equation's row and a real column with an entry there.
+/// Makes room for the pivot at a place, which is an equation's row and a real column with an entry
+/// there.
 pub(crate) fn make_room<T: Tableau>(
     rt: &impl Abort,
     tableau: &mut T,
@@ -78,7 +80,8 @@ fn agree<S: Tableau, T: Tableau>(a: &S, b: &T, rows: usize, columns: usize) -> b
     true
 }
 
-// The pivot at a place on both tableaux, which are alike after it; the sparse one has so many nodes linked, and none lost.
+// The pivot at a place on both tableaux, which are alike after it; the sparse one has so many nodes
+// linked, and none lost.
 fn step<S: Tableau>(
     rt: &impl Abort,
     dense: &mut S,

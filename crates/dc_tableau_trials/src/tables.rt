@@ -36,7 +36,8 @@ pub(crate) fn twice(alloc: Global) -> Result<Problem, AllocError> {
     problem(alloc, &[&[at(0, 1), at(1, 2)]], &[1, 2], &[1])
 }
 
-/// (2^100 + 1) * x0 + (2^100 + 3) * x1 = 1 with costs 2^100 + 5 and 0: a value of the first pivot passes 128 bits.
+/// (2^100 + 1) * x0 + (2^100 + 3) * x1 = 1 with costs 2^100 + 5 and 0: a value of the first pivot
+/// passes 128 bits.
 pub(crate) fn wide(alloc: Global) -> Result<Problem, AllocError> {
     let power = 1_267_650_600_228_229_401_496_703_205_376;
     problem(
@@ -57,8 +58,8 @@ pub(crate) fn sums(alloc: Global) -> Result<Problem, AllocError> {
     problem(alloc, &columns, &[2, 1, 3], &[1, 2, 0])
 }
 
-/// Beale's problem in whole numbers, which goes round in a circle where the most negative column enters (E. M. L. Beale, Cycling in the
-/// dual simplex algorithm, 1955).
+/// Beale's problem in whole numbers, which goes round in a circle where the most negative column
+/// enters (E. M. L. Beale, Cycling in the dual simplex algorithm, 1955).
 pub(crate) fn circle(alloc: Global) -> Result<Problem, AllocError> {
     let columns: [&[Entry]; 7] = [
         &[at(0, 4)],
@@ -72,8 +73,9 @@ pub(crate) fn circle(alloc: Global) -> Result<Problem, AllocError> {
     problem(alloc, &columns, &[0, 0, 1], &[0, 0, 0, -3, 80, -2, 24])
 }
 
-/// The main problem of two empty procedures of one parameter, of degree 0 and with products of one factor: the unknowns t, φ and χ, each
-/// by a plus and a minus column, and a multiplier for each of φ - λ0 = 0, -χ - λ1 = 0 and t - φ + χ - λ2 = 0.
+/// The main problem of two empty procedures of one parameter, of degree 0 and with products of one
+/// factor: the unknowns t, φ and χ, each by a plus and a minus column, and a multiplier for each of
+/// φ - λ0 = 0, -χ - λ1 = 0 and t - φ + χ - λ2 = 0.
 pub(crate) fn empty_pair(alloc: Global) -> Result<Problem, AllocError> {
     let columns: [&[Entry]; 9] = [
         &[at(2, 1)],

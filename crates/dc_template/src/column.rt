@@ -9,11 +9,12 @@ ghost use Rattle.dc_template.specs.Columns.{column_places};
 use dc_poly::{Mono, Poly};
 use std::alloc::{AllocError, Global};
 
-/// A monomial at the updated state: its value at a point is the product of the updates' values there, each
-/// to its exponent. The updates are normal forms, one for each place of the monomial.
+/// A monomial at the updated state: its value at a point is the product of the updates' values
+/// there, each to its exponent. The updates are normal forms, one for each place of the monomial.
 ///
-/// Its number of places is that of the updates, or 1 where there are none. With its values that fixes its
-/// terms. Its degree is at most 6, and the sizes of its coefficients add up to at most `(78 * 2147483647)^3`.
+/// Its number of places is that of the updates, or 1 where there are none. With its values that
+/// fixes its terms. Its degree is at most 6, and the sizes of its coefficients add up to at most
+/// `(78 * 2147483647)^3`.
 pub fn template_column(alloc: Global, mono: &Mono, update: &[Poly]) -> Result<Poly, AllocError>
     requires low { degree mono.now ≤ 3 }
     requires one_each { length update.now ≡ length mono.now }
@@ -57,7 +58,8 @@ fn times_power(alloc: Global, column: Poly, update: &Poly, exponent: u8) -> Resu
     ensures places { IfOk result (λ p. p.places ≡ column.places) }
     ensures kind { IfOk result (λ p. IsPolynomial p) }
     ensures degree { IfOk result (λ p. degree_of p.terms ≤ degree_of column.terms + 2 * exponent) }
-    ensures weight { IfOk result (λ p. weight p.terms ≤ weight column.terms * normal_weight ^ exponent) }
+    ensures weight { IfOk result
+        (λ p. weight p.terms ≤ weight column.terms * normal_weight ^ exponent) }
 {
     prove_eq!(column.places(), update.places());
     let mut product = column;

@@ -40,8 +40,8 @@ pub fn unknowns(vars: usize, degree: u8) -> u64
     count
 }
 
-// Puts at the end of a list the products of a monomial with each monomial of this degree in the variables
-// from a place on: first those with the variable at that place.
+// Puts at the end of a list the products of a monomial with each monomial of this degree in the
+// variables from a place on: first those with the variable at that place.
 #[tactic(auto, using(crate::proofs::Walks::walks))]
 fn extend(
     alloc: Global,

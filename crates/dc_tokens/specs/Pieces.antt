@@ -57,13 +57,17 @@ pub record IsBadComment (bs : List ℕ) (n : ℕ) : Type 0 where
 pub data Piece : ℕ → List ℕ → Option Token → ℕ → Type 0 where
   separator : {at b : ℕ} {bs : List ℕ} → is_separator b ≡ true → Piece at (b ∷ bs) None 1
   comment : {at n : ℕ} {bs : List ℕ} → IsComment bs n → Piece at bs None n
-  token : {at n : ℕ} {bs : List ℕ} {kind : TokenKind} → Longest bs n kind → value_of kind (take n bs) ≤ 2147483647
-      → Piece at bs (Some (record { kind = kind; at = at; end = at + n; value = value_of kind (take n bs) })) n
+  token : {at n : ℕ} {bs : List ℕ} {kind : TokenKind} → Longest bs n kind
+      → value_of kind (take n bs) ≤ 2147483647
+      → Piece at bs (Some (record { kind = kind; at = at; end = at + n;
+        value = value_of kind (take n bs) })) n
 
 -- what is wrong at the front of a text, and where
 pub data Wrong : ℕ → List ℕ → LexFault → Type 0 where
   not_ascii : {at b : ℕ} {bs : List ℕ} → 128 ≤ b → Wrong at (b ∷ bs) (NotAscii at)
   not_ascii_in_comment : {at n : ℕ} {bs : List ℕ} → IsBadComment bs n → Wrong at bs (NotAscii (at + n))
   -- no separator, no comment and no token
-  bad_character : {at b : ℕ} {bs : List ℕ} → b < 128 → is_separator b ≡ false → (BeginsComment (b ∷ bs) → ⊥) → NoToken (b ∷ bs) → Wrong at (b ∷ bs) (BadCharacter at)
-  too_wide : {at n : ℕ} {bs : List ℕ} → Longest bs n k.Number → 2147483647 < number_value (take n bs) → Wrong at bs (LiteralTooWide at)
+  bad_character : {at b : ℕ} {bs : List ℕ} → b < 128 → is_separator b ≡ false
+      → (BeginsComment (b ∷ bs) → ⊥) → NoToken (b ∷ bs) → Wrong at (b ∷ bs) (BadCharacter at)
+  too_wide : {at n : ℕ} {bs : List ℕ} → Longest bs n k.Number
+      → 2147483647 < number_value (take n bs) → Wrong at bs (LiteralTooWide at)

@@ -80,7 +80,8 @@ sign_kind _ = None
 
 -- the kind of the token that is spelled so
 unfoldable pub kind_of : List ℕ → Option TokenKind
-kind_of w = if is_word w then Some (word_kind w) else (if is_number w then Some k.Number else sign_kind w)
+kind_of w =
+    if is_word w then Some (word_kind w) else (if is_number w then Some k.Number else sign_kind w)
 
 -- the number that a run of digits writes, of any size
 abbrev pub number_value : List ℕ → ℕ

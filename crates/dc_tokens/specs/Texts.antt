@@ -12,13 +12,15 @@ with_token (Some t) ts = t ∷ ts
 -- the tokens of a text whose first byte stands at a place of the whole: it is pieces, one after another
 pub data Tokens : ℕ → List ℕ → List Token → Type 0 where
   end : {at : ℕ} → Tokens at [] []
-  piece : {at n : ℕ} {bs : List ℕ} {found : Option Token} {ts : List Token} → 0 < length bs → Piece at bs found n → Tokens (at + n) (drop n bs) ts
+  piece : {at n : ℕ} {bs : List ℕ} {found : Option Token} {ts : List Token} → 0 < length bs
+      → Piece at bs found n → Tokens (at + n) (drop n bs) ts
       → Tokens at bs (with_token found ts)
 
 -- what is wrong first: something is wrong after a number of pieces
 pub data Fails : ℕ → List ℕ → LexFault → Type 0 where
   here : {at : ℕ} {bs : List ℕ} {f : LexFault} → Wrong at bs f → Fails at bs f
-  after : {at n : ℕ} {bs : List ℕ} {found : Option Token} {f : LexFault} → Piece at bs found n → Fails (at + n) (drop n bs) f → Fails at bs f
+  after : {at n : ℕ} {bs : List ℕ} {found : Option Token} {f : LexFault} → Piece at bs found n
+      → Fails (at + n) (drop n bs) f → Fails at bs f
 
 -- the cause of each fault: want of memory has none in the text
 abbrev pub IsCause : List ℕ → LexFault → Type 0

@@ -23,8 +23,9 @@ fn keep(found: &mut Vec<Token>, token: Option<Token>) -> Result<(), AllocError>
     Ok(())
 }
 
-/// The tokens of a text in order, or the first byte that is wrong: one of 128 or more anywhere, outside comments one that is no separator and
-/// begins no token, or the first digit of a number above 2147483647. The longest token is taken each time.
+/// The tokens of a text in order, or the first byte that is wrong: one of 128 or more anywhere,
+/// outside comments one that is no separator and begins no token, or the first digit of a number
+/// above 2147483647. The longest token is taken each time.
 pub fn tokens(alloc: Global, bytes: &[u8]) -> Result<Vec<Token>, LexFault>
     ensures cases { MatchResult result (λ v. Tokens 0 bytes.now v.items) (IsCause bytes.now) }
     ensures ascii { OnOk result (IsAscii bytes.now) }

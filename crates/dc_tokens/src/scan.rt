@@ -27,7 +27,8 @@ fn is_separator(b: u8) -> bool
 fn word_len(bytes: &[u8]) -> usize
     ensures within { result ≤ length bytes.now }
     ensures each { (i : ℕ) → i < result → spelling.is_word_byte (slice_index bytes.now i) ≡ true }
-    ensures stops { result < length bytes.now → spelling.is_word_byte (slice_index bytes.now result) ≡ false }
+    ensures stops { result < length bytes.now
+        → spelling.is_word_byte (slice_index bytes.now result) ≡ false }
 {
     let mut n = 0;
     while n < bytes.len() && (is_letter(bytes[n]) || is_digit(bytes[n])) {
@@ -40,7 +41,8 @@ fn word_len(bytes: &[u8]) -> usize
 fn digits_len(bytes: &[u8]) -> usize
     ensures within { result ≤ length bytes.now }
     ensures each { (i : ℕ) → i < result → spelling.is_digit (slice_index bytes.now i) ≡ true }
-    ensures stops { result < length bytes.now → spelling.is_digit (slice_index bytes.now result) ≡ false }
+    ensures stops { result < length bytes.now
+        → spelling.is_digit (slice_index bytes.now result) ≡ false }
 {
     let mut n = 0;
     while n < bytes.len() && is_digit(bytes[n]) {
@@ -142,7 +144,8 @@ struct Cut {
 /// The longest token at the front of a text that isn't empty.
 fn longest(bytes: &[u8]) -> Option<Cut>
     requires { 0 < length bytes.now }
-    ensures { MatchOption result (pieces.NoToken bytes.now) (λ c. pieces.Longest bytes.now c.len c.kind) }
+    ensures { MatchOption result (pieces.NoToken bytes.now)
+        (λ c. pieces.Longest bytes.now c.len c.kind) }
 {
     let first = bytes[0];
     if is_letter(first) {
@@ -213,8 +216,10 @@ pub struct Piece {
 fn comment_piece(at: usize, bytes: &[u8], len: usize) -> Result<Piece, LexFault>
     requires fits { at + length bytes.now < 2 ^ 64 }
     requires front { pieces.IsCommentFront bytes.now len }
-    requires ends { len < length bytes.now → pieces.is_comment_byte (slice_index bytes.now len) ≡ false }
-    ensures { MatchResult result (λ p. pieces.Piece at bytes.now p.token p.len) (pieces.Wrong at bytes.now) }
+    requires ends { len < length bytes.now
+        → pieces.is_comment_byte (slice_index bytes.now len) ≡ false }
+    ensures { MatchResult result (λ p. pieces.Piece at bytes.now p.token p.len)
+        (pieces.Wrong at bytes.now) }
 {
     if len < bytes.len() && bytes[len] != b'\n' {
         Err(LexFault::NotAscii(at + len))
@@ -239,7 +244,8 @@ fn value_of(kind: TokenKind, word: &[u8]) -> Option<u32>
 fn token_piece(at: usize, bytes: &[u8], cut: Cut) -> Result<Piece, LexFault>
     requires fits { at + length bytes.now < 2 ^ 64 }
     requires longest { pieces.Longest bytes.now cut.len cut.kind }
-    ensures { MatchResult result (λ p. pieces.Piece at bytes.now p.token p.len) (pieces.Wrong at bytes.now) }
+    ensures { MatchResult result (λ p. pieces.Piece at bytes.now p.token p.len)
+        (pieces.Wrong at bytes.now) }
 {
     let kind = cut.kind;
     let len = cut.len;
@@ -262,7 +268,8 @@ fn token_piece(at: usize, bytes: &[u8], cut: Cut) -> Result<Piece, LexFault>
 pub fn front_piece(at: usize, bytes: &[u8]) -> Result<Piece, LexFault>
     requires some { 0 < length bytes.now }
     requires fits { at + length bytes.now < 2 ^ 64 }
-    ensures { MatchResult result (λ p. pieces.Piece at bytes.now p.token p.len) (pieces.Wrong at bytes.now) }
+    ensures { MatchResult result (λ p. pieces.Piece at bytes.now p.token p.len)
+        (pieces.Wrong at bytes.now) }
 {
     let first = bytes[0];
     if first >= 128 {

@@ -42,7 +42,8 @@ pub enum TokenKind {
     Or,
 }
 
-/// A token: its kind, the byte at which it begins, the byte after it, and a number's value (0 for the others).
+/// A token: its kind, the byte at which it begins, the byte after it, and a number's value (0 for
+/// the others).
 #[derive(Clone, Copy, Debug)]
 pub struct Token {
     pub kind: TokenKind,

@@ -18,7 +18,9 @@ module _ (fits : ℤ → Bool) (turns : ℕ) (x : Config) where
 
   -- a choice is left, and so many were taken
   abbrev pub LeavesOver : ℕ → Type 0
-  LeavesOver used = (y : Config) × Finishes y × (¬ (y.choices ≡ [])) × (used + length y.choices ≡ length x.choices)
+  LeavesOver used =
+      (y : Config) × Finishes y × (¬ (y.choices ≡ []))
+      × (used + length y.choices ≡ length x.choices)
 
   -- turn k is within the turns, and ends the replay
   pub record Stops (why : Why) (k : ℕ) : Type 0 where

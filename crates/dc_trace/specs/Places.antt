@@ -36,7 +36,8 @@ IsTurn t (Err H.NoMemory) y = Unit {0}
 -- a turn of the statement S, with the outermost layer L, with R behind it at its place
 abbrev pub Makes : {A : Type 0} → Stmt → Stmt-F Stmt → List Stmt → Walk → Result A Halt → Walk → Type 0
 Makes S L R w r v =
-    IsTurn (turn_of is_small S L (R ++ todo_at w.places.items) w.state.items w.cost w.choices.now) r (seen v)
+    IsTurn (turn_of is_small S L (R ++ todo_at w.places.items) w.state.items w.cost w.choices.now) r
+      (seen v)
 
 -- the next choice of two, 1 or 0; without one or with another number it says which
 abbrev pub IsDecided : List ℤ → Result Bool Halt → List ℤ → Type 0

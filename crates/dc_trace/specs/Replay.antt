@@ -1,5 +1,6 @@
 -- The replay of a run: one turn after the other takes a statement away, and each choice is told.
--- `fits` says which numbers may occur: `is_small` where the code replays, `any_number` for whole numbers without a bound.
+-- `fits` says which numbers may occur: `is_small` where the code replays, `any_number` for whole
+-- numbers without a bound.
 use Rattle.std.specs.Prelude.{◌≡◌, ℕ, zero, suc, ◌^◌, ltb, List, [], ◌∷◌, ◌++◌, slice_set, ℤ, pos, ◌+ℤ◌, int_le, unsigned_abs, Bool, true, false, ◌&&◌, if◌then◌else◌, Option, Some, None}
 use Rattle.dc_syntax.specs.declared.tree.Expr.{Expr}
 use Rattle.dc_syntax.specs.declared.tree.Stmt.{Stmt, Stmt-F, out-Stmt}
@@ -9,7 +10,8 @@ use Rattle.dc_syntax.specs.Value.{State, value, truth}
 use Rattle.dc_syntax.specs.Costs.{start_of}
 use Rattle.dc_trace.specs.Parts.{parts_of}
 
--- where a replay stands: the statements to do, the state, the cost so far, and the choices that are left
+-- where a replay stands: the statements to do, the state, the cost so far, and the choices that are
+-- left
 pub record Config : Type 0 where
   pub todo : List Stmt
   pub state : State
@@ -23,7 +25,8 @@ config A s c zs = record { todo = A; state = s; cost = c; choices = zs }
 abbrev pub start : Proc → State → List ℤ → Config
 start p v zs = config p.body (start_of p v) (pos 0) zs
 
--- why a turn ends the replay: no choice is left, a choice is neither 0 nor 1, a number doesn't fit, an `assume` or a range bars the run
+-- why a turn ends the replay: no choice is left, a choice is neither 0 nor 1, a number doesn't fit,
+-- an `assume` or a range bars the run
 pub data Why : Type 0 where
   no_choice : Why
   bad_choice : Why
@@ -53,7 +56,8 @@ act S (Assign k e) R s c zs = on (config R (slice_set s k (value e s)) c zs)
 act S (AnyOf k) R s c [] = stop no_choice
 act S (AnyOf k) R s c (z ∷ zs) = on (config R (slice_set s k z) c zs)
 act S (Between k a b) R s c [] = stop no_choice
-act S (Between k a b) R s c (z ∷ zs) = allowed (int_le (value a s) z && int_le z (value b s)) (config R (slice_set s k z) c zs)
+act S (Between k a b) R s c (z ∷ zs) =
+    allowed (int_le (value a s) z && int_le z (value b s)) (config R (slice_set s k z) c zs)
 act S (Tick e) R s c zs = on (config R s (c +ℤ value e s) zs)
 act S (Assume b) R s c zs = allowed (truth b s) (config R s c zs)
 act S (If b A B) R s c zs = on (config ((if truth b s then A else B) ++ R) s c zs)

@@ -109,8 +109,8 @@ fn either(left: bool, right: bool) -> bool
     left || right
 }
 
-/// The truth of a condition, where the value of each subexpression of every comparison has a size of at most
-/// 2^127 - 1.
+/// The truth of a condition, where the value of each subexpression of every comparison has a size
+/// of at most 2^127 - 1.
 pub(crate) fn judge(c: &Cond, state: &[i128]) -> Option<bool>
     ensures { Judges result state.now c.now }
 {
@@ -146,8 +146,8 @@ fn is_between(low: &i128, z: &i128, high: &i128) -> bool
     low <= z && z <= high
 }
 
-/// Whether a number is at least the value of one expression and at most that of another, where the value of each
-/// subexpression has a size of at most 2^127 - 1.
+/// Whether a number is at least the value of one expression and at most that of another, where the
+/// value of each subexpression has a size of at most 2^127 - 1.
 pub(crate) fn is_within(a: &Expr, z: &i128, b: &Expr, state: &[i128]) -> Option<bool>
     ensures { IsWithin result state.now a.now z.now b.now }
 {

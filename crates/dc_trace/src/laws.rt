@@ -11,8 +11,8 @@ pub fn paid_is_cost()
     ensures { PaidIsCost }
 {}
 
-/// Each cost of a procedure on an input is paid by a replay with some choices and some number of turns, where any
-/// whole number may occur.
+/// Each cost of a procedure on an input is paid by a replay with some choices and some number of
+/// turns, where any whole number may occur.
 pub fn cost_is_paid()
     ensures { CostIsPaid }
 {}

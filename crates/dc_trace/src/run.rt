@@ -99,21 +99,23 @@ fn begin<'a>(alloc: Global, p: &'a Proc, t: &'a Trace) -> Result<Walk<'a>, Alloc
 
 /// The cost of the run of `p` that the trace tells, in at most so many turns.
 ///
-/// In each turn one statement is taken and done. `x = any;`, `x = any(a, b);`, `if (*)` and `while (*)` take the next
-/// choice; for the last two 1 is the first arm or going on, and 0 the second arm or the end. An `if` and a
-/// `while` take a turn of their own, also at their end.
+/// In each turn one statement is taken and done. `x = any;`, `x = any(a, b);`, `if (*)` and `while
+/// (*)` take the next choice; for the last two 1 is the first arm or going on, and 0 the second arm
+/// or the end. An `if` and a `while` take a turn of their own, also at their end.
 ///
 /// # Errors
 ///
-/// The first turn that can't be made is told with its cause; of several causes in one turn `NoChoice` stands before
-/// `BadChoice`, then `Past128`, then `Blocked`. `Unfinished` where a statement is left after all turns. `LeftOver`
-/// where none is, and a choice is left. Else `NoMemory`, for want of memory alone.
+/// The first turn that can't be made is told with its cause; of several causes in one turn
+/// `NoChoice` stands before `BadChoice`, then `Past128`, then `Blocked`. `Unfinished` where a
+/// statement is left after all turns. `LeftOver` where none is, and a choice is left. Else
+/// `NoMemory`, for want of memory alone.
 pub fn replay(alloc: Global, p: &Proc, t: &Trace, turns: u64) -> Result<i128, TraceFault>
     requires input { length t.now.input ≡ p.now.params }
     requires few { turns < 2 ^ 64 - 1 }
     ensures cost { IfOk result (λ c. Costs p.now t.now.input c) }
     ensures paid { IfOk result (λ c. Pays is_small turns (start p.now t.now.input t.now.choices) c) }
-    ensures fault { IfErr result (λ f. IsTraceFault is_small turns (start p.now t.now.input t.now.choices) f) }
+    ensures fault { IfErr result
+        (λ f. IsTraceFault is_small turns (start p.now t.now.input t.now.choices) f) }
 {
     let mut walk = begin(alloc, p, t)?;
     let mut turn: u64 = 0;

@@ -1,7 +1,7 @@
 //! The turns of a replay.
 //!
-//! What is to be done is kept as places in the tree: at each one the statements of one list from there on. So a
-//! turn copies no list.
+//! What is to be done is kept as places in the tree: at each one the statements of one list from
+//! there on. So a turn copies no list.
 ghost use Rattle.std.specs.Prelude.{◌≡◌, ◌++◌, ◌∷◌, [], if◌then◌else◌, MatchOption, OnOk, slice_set};
 ghost use Rattle.dc_syntax.specs.declared.tree.Stmt.{Stmt as Tree, out-Stmt};
 ghost use Rattle.dc_syntax.specs.declared.tree.Stmt.TheOpen as layer;
@@ -51,7 +51,8 @@ pub(crate) struct Walk<'a> {
 
 // The place at which a list begins, `None` where it is empty.
 fn place_at<'a>(all: &'a [Stmt]) -> Option<Place<'a>>
-    ensures { MatchOption result (all.now ≡ []) (λ q. (all.now ≡ q.first.now ∷ q.rest.now) × (q.all.now ≡ q.first.now ∷ q.rest.now)) }
+    ensures { MatchOption result (all.now ≡ [])
+        (λ q. (all.now ≡ q.first.now ∷ q.rest.now) × (q.all.now ≡ q.first.now ∷ q.rest.now)) }
 {
     let (first, rest) = all.split_first()?;
     Some(Place { first, all, rest })
@@ -89,7 +90,8 @@ impl<'a> Walk<'a> {
 
     // Puts statements in front.
     fn put(&mut self, statements: &'a [Stmt]) -> Result<(), AllocError>
-        ensures todo { OnOk result (todo_at self.new.places.items ≡ statements.now ++ todo_at self.old.places.items) }
+        ensures todo { OnOk result
+            (todo_at self.new.places.items ≡ statements.now ++ todo_at self.old.places.items) }
         ensures state { self.new.state.items ≡ self.old.state.items }
         ensures cost { self.new.cost ≡ self.old.cost }
         ensures choices { self.new.choices.now ≡ self.old.choices.now }
@@ -112,7 +114,9 @@ impl<'a> Walk<'a> {
 
     // Takes the next choice.
     fn choose(&mut self) -> Option<i128>
-        ensures choice { MatchOption result ((self.old.choices.now ≡ []) × (self.new.choices.now ≡ [])) (λ z. self.old.choices.now ≡ z ∷ self.new.choices.now) }
+        ensures choice { MatchOption result
+            ((self.old.choices.now ≡ []) × (self.new.choices.now ≡ []))
+            (λ z. self.old.choices.now ≡ z ∷ self.new.choices.now) }
         ensures todo { todo_at self.new.places.items ≡ todo_at self.old.places.items }
         ensures state { self.new.state.items ≡ self.old.state.items }
         ensures cost { self.new.cost ≡ self.old.cost }
@@ -145,7 +149,8 @@ impl<'a> Walk<'a> {
     }
 
     fn between(&mut self, place: usize, a: &Expr, b: &Expr, rest: &'a [Stmt]) -> Result<(), Halt>
-        ensures { (S : Tree) → Makes S (layer.Between place a.now b.now) rest.now self.old result self.new }
+        ensures { (S : Tree)
+            → Makes S (layer.Between place a.now b.now) rest.now self.old result self.new }
     {
         let Some(z) = self.choose() else {
             return Err(Halt::NoChoice);
@@ -195,7 +200,8 @@ impl<'a> Walk<'a> {
         no: &'a [Stmt],
         rest: &'a [Stmt],
     ) -> Result<(), Halt>
-        ensures { (S : Tree) → Makes S (layer.If c.now yes.now no.now) rest.now self.old result self.new }
+        ensures { (S : Tree)
+            → Makes S (layer.If c.now yes.now no.now) rest.now self.old result self.new }
     {
         let Some(holds) = judge(c, self.state.as_slice()) else {
             return Err(Halt::Past128);
@@ -226,7 +232,8 @@ impl<'a> Walk<'a> {
         right: &'a [Stmt],
         rest: &'a [Stmt],
     ) -> Result<(), Halt>
-        ensures { (S : Tree) → Makes S (layer.IfAny left.now right.now) rest.now self.old result self.new }
+        ensures { (S : Tree)
+            → Makes S (layer.IfAny left.now right.now) rest.now self.old result self.new }
     {
         let first = self.decide()?;
         self.put(rest)?;
@@ -241,7 +248,10 @@ impl<'a> Walk<'a> {
         body: &'a [Stmt],
         place: &Place<'a>,
     ) -> Result<(), AllocError>
-        ensures todo { OnOk result (todo_at self.new.places.items ≡ (if goes_on then body.now ++ place.now.all.now else place.now.rest.now) ++ todo_at self.old.places.items) }
+        ensures todo { OnOk result
+            (todo_at self.new.places.items
+            ≡ (if goes_on then body.now ++ place.now.all.now else place.now.rest.now)
+            ++ todo_at self.old.places.items) }
         ensures state { self.new.state.items ≡ self.old.state.items }
         ensures cost { self.new.cost ≡ self.old.cost }
         ensures choices { self.new.choices.now ≡ self.old.choices.now }
@@ -256,7 +266,8 @@ impl<'a> Walk<'a> {
 
     fn repeat(&mut self, c: &Cond, body: &'a [Stmt], place: &Place<'a>) -> Result<(), Halt>
         requires { place.now.all.now ≡ place.now.first.now ∷ place.now.rest.now }
-        ensures { Makes place.now.first.now (layer.While c.now body.now) place.now.rest.now self.old result self.new }
+        ensures { Makes place.now.first.now
+            (layer.While c.now body.now) place.now.rest.now self.old result self.new }
     {
         let Some(holds) = judge(c, self.state.as_slice()) else {
             return Err(Halt::Past128);
@@ -267,7 +278,8 @@ impl<'a> Walk<'a> {
 
     fn repeat_any(&mut self, body: &'a [Stmt], place: &Place<'a>) -> Result<(), Halt>
         requires { place.now.all.now ≡ place.now.first.now ∷ place.now.rest.now }
-        ensures { Makes place.now.first.now (layer.WhileAny body.now) place.now.rest.now self.old result self.new }
+        ensures { Makes place.now.first.now
+            (layer.WhileAny body.now) place.now.rest.now self.old result self.new }
     {
         let goes_on = self.decide()?;
         self.go_on(goes_on, body, place)?;
@@ -277,7 +289,8 @@ impl<'a> Walk<'a> {
     /// Makes the turn of a statement that was taken.
     pub fn turn(&mut self, place: &Place<'a>) -> Result<(), Halt>
         requires { place.now.all.now ≡ place.now.first.now ∷ place.now.rest.now }
-        ensures { Makes place.now.first.now (out-Stmt place.now.first.now) place.now.rest.now self.old result self.new }
+        ensures { Makes place.now.first.now
+            (out-Stmt place.now.first.now) place.now.rest.now self.old result self.new }
     {
         let rest = place.rest;
         match place.first {

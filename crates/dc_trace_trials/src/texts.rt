@@ -139,7 +139,8 @@ fn long_text(
     Ok(text)
 }
 
-// The longest text has 5 + 1 + 8 + 4 bytes beside its 74,897 inputs; a choice more, ` 0`, makes it too long.
+// The longest text has 5 + 1 + 8 + 4 bytes beside its 74,897 inputs; a choice more, ` 0`, makes it
+// too long.
 #[test]
 fn longest_text(rt: HostRuntime) -> Result<(), Fail> {
     let alloc = rt.alloc();

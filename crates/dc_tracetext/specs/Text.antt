@@ -17,7 +17,8 @@ abbrev pub IsListLine : Bytes → List ℤ → Bytes → Type 0
 IsListLine word zs line = AreFields zs × (list_line word zs ≡ line)
 
 abbrev pub lines_of : Trace → List Bytes
-lines_of t = list_line (codes "input") t.input ∷ list_line (codes "choices") t.choices ∷ codes "end" ∷ []
+lines_of t =
+    list_line (codes "input") t.input ∷ list_line (codes "choices") t.choices ∷ codes "end" ∷ []
 
 abbrev pub text_of : Trace → Bytes
 text_of t = ended (lines_of t)

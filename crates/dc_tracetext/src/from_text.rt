@@ -15,9 +15,9 @@ use thiserror::Error;
 /// Why bytes are not read as a trace.
 #[derive(Debug, Drop, Error)]
 pub enum TraceTextFault {
-    /// The bytes are no trace's text. The line, from 1 on, is the first with which no trace's text goes on, of
-    /// any length; in a text of more than 1,048,576 bytes it is at most the line of byte 1,048,577; where all
-    /// lines go on it is the one behind the last line feed.
+    /// The bytes are no trace's text. The line, from 1 on, is the first with which no trace's text
+    /// goes on, of any length; in a text of more than 1,048,576 bytes it is at most the line of
+    /// byte 1,048,577; where all lines go on it is the one behind the last line feed.
     #[error("not the text of a trace")]
     BadTrace { line: u64 },
     #[error("out of memory")]
@@ -44,7 +44,8 @@ struct Reading {
 
 // The trace, where its last line is read and nothing stands behind it.
 fn finished(stage: Stage, rest: &[u8]) -> Option<Trace>
-    ensures { MatchOption result ((t : Whole) → stage ≡ Stage.Done t → ¬ (rest.now ≡ [])) (λ t. (stage ≡ Stage.Done t) × (rest.now ≡ [])) }
+    ensures { MatchOption result ((t : Whole) → stage ≡ Stage.Done t → ¬ (rest.now ≡ []))
+        (λ t. (stage ≡ Stage.Done t) × (rest.now ≡ [])) }
 {
     if !rest.is_empty() {
         return None;
@@ -77,14 +78,14 @@ fn read_lines(alloc: Global, text: &[u8]) -> Result<Reading, AllocError>
 
 /// The trace whose text the bytes are.
 ///
-/// A text has at most 1,048,576 bytes and three lines, each with its line feed: `input` and the inputs, `choices`
-/// and the choices, `end`. Each number has one space in front; it is written in digits without leading zeros,
-/// with `-` where it is negative, and its size is at most 2^63 - 1.
+/// A text has at most 1,048,576 bytes and three lines, each with its line feed: `input` and the
+/// inputs, `choices` and the choices, `end`. Each number has one space in front; it is written in
+/// digits without leading zeros, with `-` where it is negative, and its size is at most 2^63 - 1.
 ///
 /// # Errors
 ///
-/// `BadTrace` where the bytes are no trace's text, and only there, with its line; else `NoMemory`, for want of
-/// memory alone.
+/// `BadTrace` where the bytes are no trace's text, and only there, with its line; else `NoMemory`,
+/// for want of memory alone.
 pub fn read_trace(alloc: Global, text: &[u8]) -> Result<Trace, TraceTextFault>
     ensures sizes { IfOk result (λ t. IsTrace t) }
     ensures text { IfOk result (λ t. text_of t ≡ text.now) }

@@ -1,7 +1,7 @@
 //! The text of a trace, both ways.
 //!
-//! A trace says how one run of a procedure goes: its input, and the choices that it makes. Its text has three
-//! lines.
+//! A trace says how one run of a procedure goes: its input, and the choices that it makes. Its text
+//! has three lines.
 #![tactic(auto)]
 
 mod from_text;

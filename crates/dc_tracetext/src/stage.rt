@@ -20,7 +20,9 @@ pub enum Stage {
 
 // The list of a line that begins with this word; `None` exactly where the line is no such one.
 fn listed(alloc: Global, line: &[u8], word: &[u8]) -> Result<Option<Items<i64>>, AllocError>
-    ensures { IfOk result (λ o. MatchOption o ((zs : List ℤ) → ¬ IsListLine word.now zs line.now) (λ zs. IsListLine word.now zs line.now)) }
+    ensures { IfOk result
+        (λ o. MatchOption o ((zs : List ℤ) → ¬ IsListLine word.now zs line.now)
+        (λ zs. IsListLine word.now zs line.now)) }
 {
     let Some(rest) = strip(line, word) else {
         return Ok(None);
@@ -58,7 +60,8 @@ impl Stage {
 
     /// The trace, where its last line is read.
     pub fn trace(self) -> Option<Trace>
-        ensures { MatchOption result ((t : Whole) → ¬ (self ≡ Stage.Done t)) (λ t. self ≡ Stage.Done t) }
+        ensures { MatchOption result ((t : Whole) → ¬ (self ≡ Stage.Done t))
+            (λ t. self ≡ Stage.Done t) }
     {
         match self {
             Stage::Done(trace) => Some(trace),

@@ -46,8 +46,8 @@ fn put_text(alloc: Global, out: &mut Vec<u8>, t: &Trace) -> Result<(), AllocErro
 ///
 /// # Errors
 ///
-/// `TooLong` where the text has more than 1,048,576 bytes, and only there, with its length; else `NoMemory`, for
-/// want of memory alone.
+/// `TooLong` where the text has more than 1,048,576 bytes, and only there, with its length; else
+/// `NoMemory`, for want of memory alone.
 pub fn write_trace(alloc: Global, t: &Trace) -> Result<Vec<u8>, TraceWriteFault>
     requires { IsTrace t.now }
     ensures text { IfOk result (λ v. v.items ≡ text_of t.now) }

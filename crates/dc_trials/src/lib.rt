@@ -1,7 +1,8 @@
-//! Tests of the language: tokens, sources, trees and their printed texts, conditions, systems and folded systems.
+//! Tests of the language: tokens, sources, trees and their printed texts, conditions, systems and
+//! folded systems.
 //!
-//! The crate has no function of its own. Each expected value was written by hand from `docs/language.md` and from the table of what each
-//! statement adds to a system.
+//! The crate has no function of its own. Each expected value was written by hand from
+//! `docs/language.md` and from the table of what each statement adds to a system.
 #![tactic(auto)]
 
 #[cfg(test)]

@@ -203,7 +203,8 @@ fn wide(alloc: Global, comparisons: usize) -> Result<String, AllocError> {
     Ok(text)
 }
 
-// What is too large in the system of a source, and how many of it there are; where nothing is, the number of edges.
+// What is too large in the system of a source, and how many of it there are; where nothing is, the
+// number of edges.
 fn size(alloc: Global, source: &str) -> Result<(Option<Count>, u64), Fail> {
     let p = parse_proc(alloc, source.as_bytes())?;
     match build(alloc, &p) {

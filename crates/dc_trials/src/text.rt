@@ -35,7 +35,8 @@ fn put_mono(out: &mut String, names: &[String], mono: &Mono) -> Result<(), Alloc
     Ok(())
 }
 
-// A polynomial as its terms in order, each a coefficient and its monomial: ` -1 2n 1nn`. The polynomial 0 has none.
+// A polynomial as its terms in order, each a coefficient and its monomial: ` -1 2n 1nn`. The
+// polynomial 0 has none.
 fn put_poly(out: &mut String, names: &[String], poly: &Poly) -> Result<(), AllocError> {
     for term in poly.terms() {
         write!(out, " {}", term.coef)?;
@@ -55,7 +56,8 @@ pub(crate) fn form_text(
     Ok(out)
 }
 
-// An edge as a line: from and to, the atoms of the guard, what each variable becomes, the cost, and whether there is a chosen value.
+// An edge as a line: from and to, the atoms of the guard, what each variable becomes, the cost, and
+// whether there is a chosen value.
 fn put_edge(out: &mut String, names: &[String], edge: &Edge) -> Result<(), AllocError> {
     write!(out, "{} to {}", edge.from, edge.to)?;
     for atom in edge.guard.as_slice() {

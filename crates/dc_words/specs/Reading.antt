@@ -28,8 +28,11 @@ pub data Reading : Type 0 where
 -- of a value of the program
 abbrev pub reading_of : Words → Reading
 reading_of (Analyse new_name old_name when degree products pairs pivots) =
-    for_analyse (string_bytes new_name) (string_bytes old_name) (option_map string_bytes when) (record { degree = degree; products = products; pairs = pairs; pivots = pivots })
-reading_of (Check new_name old_name cert_name when) = for_check (string_bytes new_name) (string_bytes old_name) (string_bytes cert_name) (option_map string_bytes when)
+    for_analyse (string_bytes new_name) (string_bytes old_name) (option_map string_bytes when)
+      (record { degree = degree; products = products; pairs = pairs; pivots = pivots })
+reading_of (Check new_name old_name cert_name when) =
+    for_check (string_bytes new_name) (string_bytes old_name) (string_bytes cert_name)
+    (option_map string_bytes when)
 reading_of (Sample seed count) = for_sample seed count
 
 -- ---- which words have a reading
@@ -51,7 +54,8 @@ takes_words words = option_map_or (λ app. takes_line app words) (command_of wor
 
 -- the argument's value is this number, which lies in its range
 abbrev pub IsNumberIn : ℕ → ℕ → Text → List Row → ℕ → Type 0
-IsNumberIn low high id rows n = (option_map number_of (one_of id rows) ≡ Some n) × (low ≤ n) × (n ≤ high)
+IsNumberIn low high id rows n =
+    (option_map number_of (one_of id rows) ≡ Some n) × (low ≤ n) × (n ≤ high)
 
 abbrev pub row_name : Bool → Text
 row_name pairs = if pairs then codes "pairs" else codes "intervals"
@@ -89,7 +93,8 @@ IsSample rows _ = ⊥
 -- ---- the reading
 
 -- a command of this name takes the words, and they ask for what its matches say
-pub record IsLine (name : Text) (app : App) (IsAsked : List Row → Reading → Type 0) (words : List Text) (read : Reading) : Type 0 where
+pub record IsLine (name : Text) (app : App) (IsAsked : List Row → Reading → Type 0)
+    (words : List Text) (read : Reading) : Type 0 where
   pub named : slice_get words 0 ≡ Some name
   pub taken : takes_line app words ≡ true
   pub asked : IsAsked (line_rows app words) read

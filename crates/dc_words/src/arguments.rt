@@ -34,7 +34,8 @@ pub fn option<'a>(alloc: Global, id: &'a str) -> Arg<'a>
 
 /// An option `--id` that takes a number, or else is its default.
 pub fn number<'a>(alloc: Global, id: &'a str, parser: ValueParser<'a>, default: &'a str) -> Arg<'a>
-    ensures rule { rule_of result ≡ with_default default.entry.now (read_by parser.entry (option id.entry.now)) }
+    ensures rule { rule_of result
+        ≡ with_default default.entry.now (read_by parser.entry (option id.entry.now)) }
     ensures local { result.global ≡ false }
 {
     option(alloc, id)

@@ -45,7 +45,9 @@ fn with_sources<'a>(alloc: Global, command: Command<'a>) -> Result<Command<'a>, 
 
 /// The command with the options that say how a bound is sought.
 fn with_settings<'a>(alloc: Global, command: Command<'a>) -> Result<Command<'a>, AllocError>
-    ensures { IfOk result (λ c. HasRows (λ names. with_rules (settings_rules names) (app_of command.entry)) (app_of c)) }
+    ensures { IfOk result
+        (λ c. HasRows (λ names. with_rules (settings_rules names) (app_of command.entry))
+        (app_of c)) }
 {
     command
         .arg(number(alloc, "degree", numbers_u8(0, 3), "2"))?

@@ -92,7 +92,8 @@ impl From<AllocError> for WordsFault {
 pub fn read_words(alloc: Global, words: &Vec<String>) -> Result<Words, WordsFault>
     ensures taken { IfOk result (λ w. takes_words (map string_bytes words.now.items) ≡ true) }
     ensures reading { IfOk result (λ w. IsReading (map string_bytes words.now.items) (reading_of w)) }
-    ensures usage { IsErrOf result WordsFault.Usage → takes_words (map string_bytes words.now.items) ≡ false }
+    ensures usage { IsErrOf result WordsFault.Usage
+        → takes_words (map string_bytes words.now.items) ≡ false }
 {
     let Some(first) = words.first() else {
         return Err(WordsFault::Usage);

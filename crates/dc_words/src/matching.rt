@@ -19,7 +19,8 @@ pub fn matches_of<'a>(
 ) -> Result<ArgMatches<'a>, WordsFault>
     requires { is_plain_command (app_of command) ≡ true }
     ensures ok { IfOk result (IsTaken (app_of command.entry) (map string_bytes words.entry.now)) }
-    ensures usage { IsErrOf result WordsFault.Usage → takes_line (app_of command.entry) (map string_bytes words.entry.now) ≡ false }
+    ensures usage { IsErrOf result WordsFault.Usage
+        → takes_line (app_of command.entry) (map string_bytes words.entry.now) ≡ false }
 {
     match command.try_get_matches_from(words) {
         Ok(matches) => Ok(matches),
@@ -58,7 +59,8 @@ pub fn text_if_given(
 /// Whether an argument that is there has this value.
 pub fn is_value(matches: &ArgMatches<'_>, id: &str, value: &str) -> bool
     requires { is_some (first_value (found_of matches.now) id.now) ≡ true }
-    ensures { option_map (λ t. bytes_eq t value.now) (first_value (found_of matches.now) id.now) ≡ Some result }
+    ensures { option_map (λ t. bytes_eq t value.now) (first_value (found_of matches.now) id.now)
+        ≡ Some result }
 {
     matches.get_str(id).unwrap() == value
 }

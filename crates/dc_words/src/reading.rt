@@ -17,8 +17,11 @@ use std::alloc::Global;
 
 /// `analyse NEW OLD` with its options.
 pub fn read_analyse(alloc: Global, words: &[String]) -> Result<Words, WordsFault>
-    ensures ok { IfOk result (λ w. (takes_line analyse (map string_bytes words.now) ≡ true) × IsAnalyse (line_rows analyse (map string_bytes words.now)) (reading_of w)) }
-    ensures usage { IsErrOf result WordsFault.Usage → takes_line analyse (map string_bytes words.now) ≡ false }
+    ensures ok { IfOk result
+        (λ w. (takes_line analyse (map string_bytes words.now) ≡ true)
+        × IsAnalyse (line_rows analyse (map string_bytes words.now)) (reading_of w)) }
+    ensures usage { IsErrOf result WordsFault.Usage
+        → takes_line analyse (map string_bytes words.now) ≡ false }
 {
     let matches = matches_of(commands::analyse(alloc)?, words)?;
     let settings = settings_of(&matches);
@@ -35,8 +38,11 @@ pub fn read_analyse(alloc: Global, words: &[String]) -> Result<Words, WordsFault
 
 /// `check NEW OLD CERT` with its option.
 pub fn read_check(alloc: Global, words: &[String]) -> Result<Words, WordsFault>
-    ensures ok { IfOk result (λ w. (takes_line check (map string_bytes words.now) ≡ true) × IsCheck (line_rows check (map string_bytes words.now)) (reading_of w)) }
-    ensures usage { IsErrOf result WordsFault.Usage → takes_line check (map string_bytes words.now) ≡ false }
+    ensures ok { IfOk result
+        (λ w. (takes_line check (map string_bytes words.now) ≡ true)
+        × IsCheck (line_rows check (map string_bytes words.now)) (reading_of w)) }
+    ensures usage { IsErrOf result WordsFault.Usage
+        → takes_line check (map string_bytes words.now) ≡ false }
 {
     let matches = matches_of(commands::check(alloc)?, words)?;
     Ok(Words::Check {
@@ -49,8 +55,11 @@ pub fn read_check(alloc: Global, words: &[String]) -> Result<Words, WordsFault>
 
 /// `sample SEED COUNT`.
 pub fn read_sample(alloc: Global, words: &[String]) -> Result<Words, WordsFault>
-    ensures ok { IfOk result (λ w. (takes_line sample (map string_bytes words.now) ≡ true) × IsSample (line_rows sample (map string_bytes words.now)) (reading_of w)) }
-    ensures usage { IsErrOf result WordsFault.Usage → takes_line sample (map string_bytes words.now) ≡ false }
+    ensures ok { IfOk result
+        (λ w. (takes_line sample (map string_bytes words.now) ≡ true)
+        × IsSample (line_rows sample (map string_bytes words.now)) (reading_of w)) }
+    ensures usage { IsErrOf result WordsFault.Usage
+        → takes_line sample (map string_bytes words.now) ≡ false }
 {
     let matches = matches_of(commands::sample(alloc)?, words)?;
     Ok(Words::Sample {
@@ -69,8 +78,10 @@ struct Settings {
 }
 
 fn settings_of(matches: &ArgMatches<'_>) -> Settings
-    requires { (names : Lent) × IsRowNames names × IsFilled (found_of matches.now) (settings_rules names) }
-    ensures { IsSettings (rows_of (found_of matches.now)) result.degree result.products result.pairs result.pivots }
+    requires { (names : Lent) × IsRowNames names
+        × IsFilled (found_of matches.now) (settings_rules names) }
+    ensures { IsSettings
+        (rows_of (found_of matches.now)) result.degree result.products result.pairs result.pivots }
 {
     Settings {
         degree: number_u8(matches, "degree"),

@@ -7,7 +7,9 @@ abbrev pub NumbersAreAdded : Type 0
 NumbersAreAdded = (k i : ℕ) (ks : List ℕ) → is_listed i (with_number k ks) ≡ (eqb i k || is_listed i ks)
 
 abbrev pub ListsStayLists : Type 0
-ListsStayLists = (w : Listed) (k : ℕ) → k < w.edges → IsList w → IsList (record { edges = w.edges; numbers = with_number k w.numbers })
+ListsStayLists =
+    (w : Listed) (k : ℕ) → k < w.edges → IsList w
+    → IsList (record { edges = w.edges; numbers = with_number k w.numbers })
 
 -- a rising list is told by what is on it
 abbrev pub ListsAreSets : Type 0

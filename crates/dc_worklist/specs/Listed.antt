@@ -23,7 +23,8 @@ pub record IsList (w : Listed) : Type 0 where
 -- one number more, unless it is there, before the first that is greater
 abbrev pub with_number : ℕ → List ℕ → List ℕ
 with_number k [] = k ∷ []
-with_number k (x ∷ xs) = if ltb k x then k ∷ x ∷ xs else (if eqb k x then x ∷ xs else x ∷ with_number k xs)
+with_number k (x ∷ xs) =
+    if ltb k x then k ∷ x ∷ xs else (if eqb k x then x ∷ xs else x ∷ with_number k xs)
 
 -- the least is taken out, if there is one
 pub record IsTaken (old new : Listed) (k : ℕ) : Type 0 where

@@ -15,8 +15,8 @@ struct Links {
 
 /// A rising list of edge numbers below a bound, each at most once.
 ///
-/// It is doubly linked by number, with one place for each edge: an edge on the list names its neighbours both ways, every other has no
-/// links.
+/// It is doubly linked by number, with one place for each edge: an edge on the list names its
+/// neighbours both ways, every other has no links.
 #[derive(Debug, Drop)]
 pub struct WorkList {
     places: Vec<Option<Links>>,
@@ -31,7 +31,8 @@ impl Model for WorkList {
 
     ghost use Rattle.dc_worklist.specs.Links.{linked_from, AreLinked};
 
-    ghost view = { λ w. record { edges = length w.places.items; numbers = linked_from 0 w.places.items } };
+    ghost view = { λ w. record { edges = length w.places.items;
+        numbers = linked_from 0 w.places.items } };
 
     ghost invariant = { λ w. AreLinked w.places.items w.first };
 }
@@ -49,11 +50,13 @@ impl WorkList {
 
     /// Puts an edge on the list, and says whether it is new there. It takes no memory.
     ///
-    /// The neighbour is looked for from the edge down: as many steps as there are edges between the two, at most `edge`.
+    /// The neighbour is looked for from the edge down: as many steps as there are edges between the
+    /// two, at most `edge`.
     pub fn insert(&mut self, edge: usize) -> bool
         requires { edge < self.old.edges }
         ensures told { result ≡ not (is_listed edge self.old.numbers) }
-        ensures list { self.new ≡ record { edges = self.old.edges; numbers = with_number edge self.old.numbers } }
+        ensures list { self.new
+            ≡ record { edges = self.old.edges; numbers = with_number edge self.old.numbers } }
     {
         if self.places[edge].is_some() {
             return false;
@@ -62,7 +65,8 @@ impl WorkList {
         true
     }
 
-    /// The least edge, which is taken out; none where the list is empty. It takes no memory, and looks at two places at most.
+    /// The least edge, which is taken out; none where the list is empty. It takes no memory, and
+    /// looks at two places at most.
     pub fn pop_first(&mut self) -> Option<usize>
         ensures { IsPopped self.old self.new result }
     {
