@@ -101,7 +101,7 @@ pub data CertificateEnds (c : Certificate) (new old : Proc) (cases : List (List 
       → CertificateEnds c new old cases end
   holds : checks.Accepts new old cases c (claim_of c.body)
       → end ≡ Printed (output status.accepted (accepted_text (claim_of c.body)) None)
-        → CertificateEnds c new old cases end
+      → CertificateEnds c new old cases end
 
 pub data CheckEnds (x y z : Bytes) (when : Option Bytes) (end : End) : Type 0 where
   no_text : (line : ℕ) → IsBadLine HasText limit z line → end ≡ Refused (r.BadCertificate line)
@@ -133,12 +133,12 @@ sample_text seed n k =
 abbrev pub IsSummed : ℕ → ℕ → Meaning → Certificate → End → Type 0
 IsSummed seed n left c end =
     end ≡ Printed (output (claim_status (claim_of c.body)) (sample_text seed n (claim_of c.body))
-      (Some left))
+    (Some left))
 
 abbrev pub SampleEnds : ℕ → ℕ → End → Type 0
 SampleEnds seed n end =
     AnalysisEnds (new_source seed n) (old_source seed n) (Some sample_condition) sample_settings
-      (IsSummed seed n) end
+    (IsSummed seed n) end
 
 -- ---- of what words ask for: a new command adds a line to each of these
 abbrev pub settings_of : Search → Settings
@@ -162,7 +162,7 @@ files_of (for_sample seed n) = []
 abbrev pub Names : List Bytes → List File → Type 0
 Names words files =
     ((takes_words words ≡ false) × (files ≡ []))
-      ⊎ ((read : Reading) × IsReading words read × (files ≡ files_of read))
+    ⊎ ((read : Reading) × IsReading words read × (files ≡ files_of read))
 
 -- the answer of words, and of the texts of the files that they name
 pub data Answers (words texts : List Bytes) (end : End) : Type 0 where

@@ -120,7 +120,7 @@ large_line None what n =
     codes "too large: " ++ (count_text what ++ (codes " " ++ (decimal n ++ codes "\n")))
 large_line (Some s) what n =
     codes "too large: " ++ (side_text s
-      ++ (codes " " ++ (count_text what ++ (codes " " ++ (decimal n ++ codes "\n")))))
+    ++ (codes " " ++ (count_text what ++ (codes " " ++ (decimal n ++ codes "\n")))))
 
 abbrev pub pivot_line : Place → ℕ → Bytes
 pivot_line p n =

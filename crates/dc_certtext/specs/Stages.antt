@@ -70,31 +70,31 @@ offers (Sizes c v) = offer true (codes "degree ") (sizes (λ d k. sized c v d k)
 offers (Cases c d k) = offer true (codes "cases ") (number 1 64 (λ m. Heads (head c 2 d k m []))) ∷ []
 offers (Heads h) =
     offer (ltb (length h.when) h.cases) (codes "when") (shown (λ l. Heads (with_when h l)))
-      ∷ offer (not (ltb (length h.when) h.cases)) (codes "side new") (plain (Opened (front h None)))
-      ∷ []
+    ∷ offer (not (ltb (length h.when) h.cases)) (codes "side new") (plain (Opened (front h None)))
+    ∷ []
 offers (Opened f) = offer true (numbered (codes "location ") 0) (plain (Locations f [] [])) ∷ []
 offers (Locations f done last) =
     offer (ltb (length last) 1024) (codes "atom") (atom (λ a. Locations f done (last ++ a ∷ [])))
     ∷ offer (ltb (suc (length done)) 128) (numbered (codes "location ") (suc (length done)))
-      (plain (Locations f (done ++ last ∷ []) []))
+    (plain (Locations f (done ++ last ∷ []) []))
     ∷ offer true (entry_line f.head.version 0) (plain (Entries f (done ++ last ∷ []) [] []))
     ∷ []
 offers (Entries f fam done last) =
     offer (ltb (length last) 1024) (codes "keep") (vector (λ s. Entries f fam done (last ++ s ∷ [])))
     ∷ offer (ltb (suc (length done)) f.head.cases) (entry_line f.head.version (suc (length done)))
-      (plain (Entries f fam (done ++ last ∷ []) []))
+    (plain (Entries f fam (done ++ last ∷ []) []))
     ∷ offer (not (ltb (suc (length done)) f.head.cases)) (numbered (codes "edge ") 0)
-      (shown (λ l. Edges f fam (done ++ last ∷ []) [] l []))
+    (shown (λ l. Edges f fam (done ++ last ∷ []) [] l []))
     ∷ offer (not (ltb (suc (length done)) f.head.cases)) (codes "exit")
-      (shown (λ l. closed_by f.head f.new (side_of fam (done ++ last ∷ []) [] l)))
+    (shown (λ l. closed_by f.head f.new (side_of fam (done ++ last ∷ []) [] l)))
     ∷ []
 offers (Edges f fam ents done live last) =
     offer (ltb (length last) 1024) (codes "keep")
-      (vector (λ s. Edges f fam ents done live (last ++ s ∷ [])))
+    (vector (λ s. Edges f fam ents done live (last ++ s ∷ [])))
     ∷ offer (ltb (suc (length done)) 512) (numbered (codes "edge ") (suc (length done)))
-      (shown (λ l. Edges f fam ents (done ++ edge_of live last ∷ []) l []))
+    (shown (λ l. Edges f fam ents (done ++ edge_of live last ∷ []) l []))
     ∷ offer true (codes "exit")
-      (shown (λ l. closed_by f.head f.new (side_of fam ents (done ++ edge_of live last ∷ []) l)))
+    (shown (λ l. closed_by f.head f.new (side_of fam ents (done ++ edge_of live last ∷ []) l)))
     ∷ []
 offers (Between h n) = offer true (codes "side old") (plain (Opened (front h (Some n)))) ∷ []
 offers (Closed h n o) = offer true (codes "main") (plain (Main h n o F.None)) ∷ []

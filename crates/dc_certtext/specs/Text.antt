@@ -73,8 +73,8 @@ edge_lines n e = edge_line n e.live ∷ keep_lines e.keeps
 abbrev pub side_lines : ℕ → SideCert → List Bytes
 side_lines version s =
     groups location_lines 0 s.families
-      ++ (groups (entry_lines version) 0 s.entry_keeps
-      ++ (groups edge_lines 0 s.edges ++ (shown_line (codes "exit") s.exit_line ∷ [])))
+    ++ (groups (entry_lines version) 0 s.entry_keeps
+    ++ (groups edge_lines 0 s.edges ++ (shown_line (codes "exit") s.exit_line ∷ [])))
 
 -- ---- the whole
 abbrev pub claim_lines : Claim → List Bytes
@@ -93,23 +93,23 @@ body_lines (Threshold t unknown lambda dual) =
 body_lines (Nothing dual) = vector_line (codes "dual") dual ∷ []
 body_lines (Vacuous unknown lambda ray_unknown ray_lambda) =
     vector_line (codes "unknown") unknown ∷ vector_line (codes "lambda") lambda
-      ∷ vector_line (codes "ray unknown") ray_unknown ∷ vector_line (codes "ray lambda") ray_lambda
-      ∷ []
+    ∷ vector_line (codes "ray unknown") ray_unknown ∷ vector_line (codes "ray lambda") ray_lambda
+    ∷ []
 
 -- from the claim to the cases of the condition
 abbrev pub head_lines : Certificate → List Bytes
 head_lines c =
     claim_lines (claim_of c.body)
-      ++ (numbered (codes "diffcost ") c.version ∷ sizes_line c.degree c.products
-      ∷ (cases_lines c.version (length c.when) ++ map (shown_line (codes "when")) c.when))
+    ++ (numbered (codes "diffcost ") c.version ∷ sizes_line c.degree c.products
+    ∷ (cases_lines c.version (length c.when) ++ map (shown_line (codes "when")) c.when))
 
 abbrev pub lines_of : Certificate → List Bytes
 lines_of c =
     head_lines c ++ (codes "side new"
-      ∷ (side_lines c.version c.new_side
-      ++ (codes "side old"
-      ∷ (side_lines c.version c.old_side
-      ++ (codes "main" ∷ (body_lines c.body ++ (codes "end" ∷ [])))))))
+    ∷ (side_lines c.version c.new_side
+    ++ (codes "side old"
+    ∷ (side_lines c.version c.old_side
+    ++ (codes "main" ∷ (body_lines c.body ++ (codes "end" ∷ [])))))))
 
 abbrev pub text_of : Certificate → Bytes
 text_of c = ended (lines_of c)

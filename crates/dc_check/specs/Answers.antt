@@ -31,7 +31,7 @@ module _ (s t : System) (cases : List (List Atom)) (c : Certificate) where
   abbrev pub claim_steps : List Step
   claim_steps =
       mains.claim_steps (main_problem (pair s t cases c) c.degree c.products (flags c))
-        (length (unknowns_of (pair s t cases c) c.degree)) c.body
+      (length (unknowns_of (pair s t cases c) c.degree)) c.body
 
   -- the first limit that the main problem passes
   abbrev pub main_fault : Option MatchFault
@@ -59,7 +59,7 @@ pub record Accepts (new old : Proc) (cases : List (List Atom)) (c : Certificate)
 abbrev pub IsFirst : System → System → List (List Atom) → Certificate → Step → Type 0
 IsFirst s t cases c x =
     (first_failure (family_steps s t cases c) ≡ Some x)
-      ⊎ (IsReady s t cases c × (first_failure (claim_steps s t cases c) ≡ Some x))
+    ⊎ (IsReady s t cases c × (first_failure (claim_steps s t cases c) ≡ Some x))
 
 pub record FailsAt (new old : Proc) (cases : List (List Atom)) (c : Certificate)
     (x : Step) : Type 0 where

@@ -37,7 +37,7 @@ pub record ShowsFamilies (s t : System) (cases : List (List Atom)) (c : Certific
 abbrev pub ClausesShowFamilies : Type 0
 ClausesShowFamilies = (s t : System) (cases : List (List Atom)) (c : Certificate)
     → IsWellFormed s → IsWellFormed t → s.params ≡ t.params → AllByRecursion (IsCase s.params) cases
-      → IsCertificate c
+    → IsCertificate c
     → AllHold (family_steps s t cases c) → ShowsFamilies s t cases c
 
 -- ---- runs
@@ -51,7 +51,7 @@ abbrev pub CertificatesSpeakOfRuns : Type 0
 CertificatesSpeakOfRuns =
     (new old : Proc) (version : ℕ) (s t : System) (cases : List (List Atom)) (c : Certificate)
     → IsProgram new → IsProgram old → HaveSameParams new old → IsCondition new.params cases
-      → IsCertificate c → HasSystems new old version s t
+    → IsCertificate c → HasSystems new old version s t
     → AllHold (family_steps s t cases c) → SpeaksOfRuns new old cases (pair s t cases c)
 
 -- ---- sizes
@@ -59,5 +59,5 @@ CertificatesSpeakOfRuns =
 abbrev pub AcceptedFit : Type 0
 AcceptedFit = (s t : System) (cases : List (List Atom)) (c : Certificate)
     → IsWellFormed s → IsWellFormed t → s.params ≡ t.params → IsCondition s.params cases
-      → IsCertificate c
+    → IsCertificate c
     → AllHold (family_steps s t cases c) → IsFit (pair s t cases c) c.degree c.products (flags c)

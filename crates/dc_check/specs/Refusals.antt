@@ -36,5 +36,5 @@ IsStepFault s t cases c (Rejected clause index) = IsFirst s t cases c (step clau
 IsStepFault s t cases c (Past128 clause index) = IsFirst s t cases c (step clause index None)
 IsStepFault s t cases c (TooLarge at what count) =
     (at ≡ None) × AllHold (family_steps s t cases c)
-      × (main_fault s t cases c ≡ Some (main.TooLarge what count))
+    × (main_fault s t cases c ≡ Some (main.TooLarge what count))
 IsStepFault s t cases c NoMemory = Unit {0}

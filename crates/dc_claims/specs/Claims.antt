@@ -74,7 +74,7 @@ module _ (p : Pair) (d k : ℕ) where
     pub signs : (i : ℕ) → i < products_count p k o → NonNegative (multipliers o i)
     pub identity : (x : List ℤ) → length x ≡ places_of p o
         → left_value p d t φ χ o x
-          ≡ dot (made (products_count p k o) (multipliers o)) (product_values p k o x)
+        ≡ dot (made (products_count p k o) (multipliers o)) (product_values p k o x)
 
   -- each duty that is owed is met
   pub record Certifies (t : ℚ) (φ χ : Potential) (multipliers : Multipliers) : Type 0 where

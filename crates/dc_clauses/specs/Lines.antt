@@ -61,7 +61,7 @@ dead_parts hyps n v =
 abbrev pub live_parts : List Atom → ℕ → Sparse → List Test
 live_parts hyps n y =
     map (λ j. is_at_most (column_sum hyps n y j) (pos 0)) (range_with_len 0 (length hyps))
-      ++ Some (is_negative (at y n)) ∷ []
+    ++ Some (is_negative (at y n)) ∷ []
 
 abbrev pub line_parts : List Atom → ℕ → Liveness → List Test
 line_parts hyps n (Dead v) = dead_parts hyps n v
@@ -76,4 +76,4 @@ line_in_range atoms n (Live y) = in_range (n + 1) y
 abbrev pub keep_parts : List Atom → ℕ → Atom → List Test → Sparse → List Test
 keep_parts hyps n a more v =
     signs v ++ (more ++ (coefficient_parts hyps n v (coefficient_of a)
-      ++ is_at_most (part_sum hyps n v n) a.c0 ∷ []))
+    ++ is_at_most (part_sum hyps n v n) a.c0 ∷ []))

@@ -63,7 +63,7 @@ module _ (main : Linear ℤ) (u : ℕ) where
   range_steps (Nothing dual) = range_step 4 main.equations dual ∷ []
   range_steps (Vacuous unknown lambda ray_unknown ray_lambda) =
       range_step 0 u unknown ∷ range_step 1 multipliers lambda ∷ range_step 2 u ray_unknown
-        ∷ range_step 3 multipliers ray_lambda ∷ []
+      ∷ range_step 3 multipliers ray_lambda ∷ []
 
   -- ---- clause 8: each item of lambda, then of the ray's lambda, is positive; the index is the item's
   abbrev pub sign_step : Item → Step
@@ -102,7 +102,7 @@ module _ (main : Linear ℤ) (u : ℕ) where
   abbrev pub threshold_tests : Body → List Test
   threshold_tests (Threshold t unknown lambda dual) =
       all_of (Some (eq_ℚ (value t) (at unknown 0))
-        ∷ option_map (λ s. eq_ℚ (value t) s) (right_fold dual) ∷ []) ∷ []
+      ∷ option_map (λ s. eq_ℚ (value t) s) (right_fold dual) ∷ []) ∷ []
   threshold_tests (Nothing dual) = option_map is_positive (right_fold dual) ∷ []
   threshold_tests (Vacuous unknown lambda ray_unknown ray_lambda) = []
 

@@ -58,13 +58,13 @@ entry_fits atoms cases [] (ks ∷ kss) = false
 entry_fits atoms cases (w ∷ ws) [] = false
 entry_fits atoms cases (w ∷ ws) (ks ∷ kss) =
     has_keeps w atoms ks
-      && (case_range (slice_get cases 0) ks && entry_fits atoms (drop 1 cases) ws kss)
+    && (case_range (slice_get cases 0) ks && entry_fits atoms (drop 1 cases) ws kss)
 
 abbrev pub edge_fits : System → SideCert → Edge → EdgeCert → Bool
 edge_fits s x e c =
     line_in_range (length (edge_atoms x e)) (edge_places s.vars e) c.live
     && (has_keeps c.live (atoms_at x e.to) c.keeps
-      && list_all (in_range (length (edge_atoms x e))) c.keeps)
+    && list_all (in_range (length (edge_atoms x e))) c.keeps)
 
 abbrev pub shape_fits : System → List (List Atom) → List Liveness → SideCert → Bool
 shape_fits s cases when x =
@@ -108,7 +108,7 @@ edge_tests s x = paired (edge_test s x) s.edges x.edges
 abbrev pub keep_test : System → SideCert → Edge → Atom → Sparse → Test
 keep_test s x e a k =
     all_of (keep_parts (edge_atoms x e) (edge_places s.vars e) (atom_after s.vars e a)
-      (Some (is_affine_after e a.coefs) ∷ []) k)
+    (Some (is_affine_after e a.coefs) ∷ []) k)
 
 abbrev pub keep_tests : System → SideCert → List Test
 keep_tests s x =

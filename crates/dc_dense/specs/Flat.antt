@@ -42,14 +42,14 @@ reductions_fit xs from pivot col factor n = all_below n (λ k. k == col
 abbrev pub IsReduced : List Frac → List Frac → ℕ → ℕ → ℕ → ℚ → ℕ → Type 0
 IsReduced old new from pivot col factor n = (k : ℕ) → k < n
     → item new (from + k)
-      ≡ cond (k == col) (of_ℤ (pos 0)) (item old (from + k) -ℚ factor *ℚ item old (pivot + k))
+    ≡ cond (k == col) (of_ℤ (pos 0)) (item old (from + k) -ℚ factor *ℚ item old (pivot + k))
 
 -- what row i has once it is reduced; row `row` stays, and so does a row with 0 in column col
 unfoldable pub reduced_item : List Frac → ℕ → ℕ → ℕ → ℕ → ℕ → ℚ
 reduced_item xs w row col i k =
     cond (i == row || is_zero (item xs (i * w + col))) (item xs (i * w + k))
     (cond (k == col) (of_ℤ (pos 0))
-      (item xs (i * w + k) -ℚ item xs (i * w + col) *ℚ item xs (row * w + k)))
+    (item xs (i * w + k) -ℚ item xs (i * w + col) *ℚ item xs (row * w + k)))
 
 unfoldable pub row_fits : List Frac → ℕ → ℕ → ℕ → ℕ → Bool
 row_fits xs w row col i = i == row || is_zero (item xs (i * w + col))
@@ -69,8 +69,8 @@ items_fit xs w h row col =
     all_below w (λ k. quotient_fits (item xs (row * w + k)) (item xs (row * w + col)))
     && all_below h (λ i. i == row || is_zero (item xs (i * w + col))
     || all_below w (λ k. k == col
-      || step_fits (item xs (i * w + col)) (item xs (row * w + k) /ℚ item xs (row * w + col))
-      (item xs (i * w + k))))
+    || step_fits (item xs (i * w + col)) (item xs (row * w + k) /ℚ item xs (row * w + col))
+    (item xs (i * w + k))))
 
 -- what a pivot leaves in row i and column k
 abbrev pub pivoted_item : List Frac → ℕ → ℕ → ℕ → ℕ → ℕ → ℚ
@@ -78,7 +78,7 @@ pivoted_item xs w row col i k =
     cond (i == row) (item xs (row * w + k) /ℚ item xs (row * w + col))
     (cond (is_zero (item xs (i * w + col))) (item xs (i * w + k))
     (item xs (i * w + k)
-      -ℚ item xs (i * w + col) *ℚ (item xs (row * w + k) /ℚ item xs (row * w + col))))
+    -ℚ item xs (i * w + col) *ℚ (item xs (row * w + k) /ℚ item xs (row * w + col))))
 
 pub record ArePivoted (old new : List Frac) (w h row col : ℕ) : Type 0 where
   pub long : length new ≡ length old

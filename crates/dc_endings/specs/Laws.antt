@@ -27,13 +27,13 @@ use Rattle.dc_acceptance.specs.Laws.{Makes}
 abbrev pub IsChecked : Proc → Proc → List (List Atom) → Certificate → Type 0
 IsChecked new old cases c =
     ((k : Claim) × Accepts new old cases c k)
-        ⊎ ((f : CheckFault) × (f ≢ NoMemory) × IsFault new old cases c f)
+    ⊎ ((f : CheckFault) × (f ≢ NoMemory) × IsFault new old cases c f)
 
 -- of two programs with the same parameters, a condition over these, and a certificate within its ranges
 abbrev pub EachIsChecked : Type 0
 EachIsChecked = (new old : Proc) (cases : List (List Atom)) (c : Certificate)
     → IsProgram new → IsProgram old → HaveSameParams new old → IsCondition new.params cases
-      → IsCertificate c
+    → IsCertificate c
     → IsChecked new old cases c
 
 -- ---- analyses
@@ -52,4 +52,4 @@ EachMadeEnds = (i : Input) (a : Analysis) (t : Table ℚ) (c : Certificate) → 
 abbrev pub EachEnds : Type 0
 EachEnds = (i : Input) → IsInput i
     → ((left : Meaning) × (c : Certificate) × TellsCertificate i left c)
-      ⊎ ((f : AnalyseFault) × IsRefusal i f)
+    ⊎ ((f : AnalyseFault) × IsRefusal i f)

@@ -45,7 +45,7 @@ Refuses budget (q ∷ qs) place a =
 abbrev pub RefusalsJoin : Type 0
 RefusalsJoin = (budget : ℕ) (ps qs : List Asked) (place : Place) (a : Answer)
     → Refuses budget (ps ++ qs) place a
-      ↔ (Refuses budget ps place a ⊎ (AllDone budget ps × Refuses budget qs place a))
+    ↔ (Refuses budget ps place a ⊎ (AllDone budget ps × Refuses budget qs place a))
 
 -- and no list has both a first refusal and an end for each
 abbrev pub RefusalExcludes : Type 0

@@ -97,13 +97,13 @@ RoundsAreUpward =
 abbrev pub ListsAreFamilies : Type 0
 ListsAreFamilies = (s : Graph) (c : Candidates) (J : Family) (l : ℕ) (p : Point)
     → AreCandidates s.vars c → HasCandidates s c J → MeetsAll p (atoms_at s.vars c J l)
-      ↔ MeetsFamily J l p
+    ↔ MeetsFamily J l p
 
 -- the greatest family has false at each location whose list is dead
 abbrev pub DeadHaveFalse : Type 0
 DeadHaveFalse = (s : Graph) (cases : List (List Atom)) (c : Candidates) (J : Family) (l : ℕ)
     → AreCandidates s.vars c → IsGreatest s cases c J → l < s.locs → IsDead (atoms_at s.vars c J l)
-      → J l (never s.vars) ≡ true
+    → J l (never s.vars) ≡ true
 
 abbrev pub GreatestIsHonest : Type 0
 GreatestIsHonest = (s : Graph) (cases : List (List Atom)) (c : Candidates) (J : Family)
@@ -128,7 +128,7 @@ PrintedSayLists =
     (s : Graph) (c : Candidates) (J : Family) (printed : List (List Atom))
     (asked : List (List Question)) (l : ℕ) (p : Point)
     → ArePrinted s c J printed asked → l < s.locs → MeetsAll p (slice_index_or printed l [])
-      ↔ MeetsAll p (atoms_at s.vars c J l)
+    ↔ MeetsAll p (atoms_at s.vars c J l)
 
 -- the printed atoms of the greatest family are an inductive family
 abbrev pub PrintedAreInductive : Type 0
@@ -136,4 +136,4 @@ PrintedAreInductive =
     (s : Graph) (cases : List (List Atom)) (c : Candidates) (J : Family)
     (printed : List (List Atom)) (asked : List (List Question))
     → IsGraph s → AreCandidates s.vars c → IsGreatest s cases c J → ArePrinted s c J printed asked
-      → IsInductive s cases (family_of printed)
+    → IsInductive s cases (family_of printed)

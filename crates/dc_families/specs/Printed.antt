@@ -22,11 +22,11 @@ module _ (c : Candidates) (J : Family) (l : ℕ) where
     drops : {rows front back left : List ℕ} {asked : List Question} (r : ℕ) → rows ≡ front ++ r ∷ []
         → Entails (atoms_of (front ++ back)) (least_atom c J l r)
         → Pruned front back asked left
-          → Pruned rows back (record { row = r; others = front ++ back } ∷ asked) left
+        → Pruned rows back (record { row = r; others = front ++ back } ∷ asked) left
     keeps : {rows front back left : List ℕ} {asked : List Question} (r : ℕ) → rows ≡ front ++ r ∷ []
         → ¬ Entails (atoms_of (front ++ back)) (least_atom c J l r)
         → Pruned front (r ∷ back) asked left
-          → Pruned rows back (record { row = r; others = front ++ back } ∷ asked) left
+        → Pruned rows back (record { row = r; others = front ++ back } ∷ asked) left
 
   -- where the family has no false
   pub record IsPruned (printed : List Atom) (asked : List Question) : Type 0 where

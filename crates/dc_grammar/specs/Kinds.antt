@@ -49,5 +49,5 @@ kinds =
     k.Name ∷ k.Number ∷ k.Proc ∷ k.Var ∷ k.Skip ∷ k.Tick ∷ k.Any ∷ k.Assume ∷ k.If ∷ k.Else
     ∷ k.While ∷ k.True ∷ k.False
     ∷ k.LParen ∷ k.RParen ∷ k.LBrace ∷ k.RBrace ∷ k.LBracket ∷ k.RBracket ∷ k.Comma ∷ k.Semi
-      ∷ k.Assign ∷ k.Eq ∷ k.Ne ∷ k.Lt ∷ k.Le ∷ k.Gt ∷ k.Ge
+    ∷ k.Assign ∷ k.Eq ∷ k.Ne ∷ k.Lt ∷ k.Le ∷ k.Gt ∷ k.Ge
     ∷ k.Plus ∷ k.Minus ∷ k.Star ∷ k.Bang ∷ k.And ∷ k.Or ∷ []

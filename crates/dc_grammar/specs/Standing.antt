@@ -94,7 +94,7 @@ pub record CountsOperators : Type 0 where
   -- each operator of a text stands in one
   pub each : (x : Name) (u more : List Token) (t : Token) (a : Tree Token) → is_layer x ≡ false
       → has is operators t.kind ≡ true → Derives language (ref x) (u ++ t ∷ more) a
-        → Stands (ref x) u t more
+      → Stands (ref x) u t more
   -- what begins a text is too deep first with a token that opens one bracket too many, or is one
   -- operator too many
   pub first : (x : Name) (u : List Token) (t : Token) → is_layer x ≡ false

@@ -60,7 +60,7 @@ pub record IsRowLowered (Gives : Atom → Type 0) (c : Candidates) (r : ℕ)
   pub dead : new.dead ≡ old.dead
   pub row : (m : ℕ) → m < length c.bounds
       → IsFrom (slice_index_or new.least r None) m
-        ↔ (IsFrom (slice_index_or old.least r None) m × Gives (bounded (row_at c r) (bound_at c m)))
+      ↔ (IsFrom (slice_index_or old.least r None) m × Gives (bounded (row_at c r) (bound_at c m)))
   pub others : (i : ℕ) → (i ≡ r → ⊥) → slice_index_or new.least i None ≡ slice_index_or old.least i None
 
 -- ---- all rows
@@ -76,7 +76,7 @@ pub record IsLowered (Gives : Atom → Type 0) (n : ℕ) (c : Candidates)
   pub dead : new.dead ≡ old.dead
   pub rows : (r m : ℕ) → r < n → m < length c.bounds
       → IsFrom (slice_index_or new.least r None) m
-        ↔ (IsFrom (slice_index_or old.least r None) m × Gives (bounded (row_at c r) (bound_at c m)))
+      ↔ (IsFrom (slice_index_or old.least r None) m × Gives (bounded (row_at c r) (bound_at c m)))
   pub others : (r : ℕ) → n ≤ r → slice_index_or new.least r None ≡ slice_index_or old.least r None
 
 -- a row that the one does not have, the other does not have

@@ -67,7 +67,7 @@ ListsAreLeast =
 abbrev pub UnchangedGive : Type 0
 UnchangedGive = (s : Graph) (cases : List (List Atom)) (J K : Family) (e : Edge) (a : Atom)
     → IsRound s cases J K → ((b : Atom) → J e.from b ≡ true → K e.from b ≡ true) → Among e s.edges
-      → K e.to a ≡ true → EdgeGives s K e a
+    → K e.to a ≡ true → EdgeGives s K e a
 
 -- and each of its problems has been asked, so where those came to their end these do
 abbrev pub UnchangedAsk : Type 0
@@ -83,4 +83,4 @@ EntriesAskOnce =
     (side : Side) (s : Graph) (cases : List (List Atom)) (c : Candidates) (J K : Family)
     (budget k : ℕ) (case : List Atom)
     → IsRound s cases J K → AllDone budget (entry_rows side s c J k case)
-      → AllDone budget (entry_rows side s c K k case)
+    → AllDone budget (entry_rows side s c K k case)

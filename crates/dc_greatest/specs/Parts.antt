@@ -63,7 +63,7 @@ module _ (side : Side) (s : Graph) (c : Candidates) (J : Family) where
   abbrev pub edge_asked : ℕ → Edge → Bool → List Asked
   edge_asked k e live =
       if J e.from (never s.vars) then [] else edge_empty k e
-        ∷ (if live then map (edge_row k e) (affine_rows s c J e) else [])
+      ∷ (if live then map (edge_row k e) (affine_rows s c J e) else [])
 
   -- ---- a round, where flags tell the live cases and the live edges
   abbrev pub round_asked : List (List Atom) → List Bool → List Bool → List Asked

@@ -27,8 +27,14 @@ impl Model for MemSink {
 
     ghost Value = { Held };
 
-    ghost view = { λ s. record { bytes = s.bytes.items; room = s.room; piece = s.piece;
-        failing = s.failing.items; calls = s.calls; faults = s.faults } };
+    ghost view = { λ s. record {
+      bytes = s.bytes.items;
+      room = s.room;
+      piece = s.piece;
+      failing = s.failing.items;
+      calls = s.calls;
+      faults = s.faults;
+    } };
 
     ghost invariant = { λ s. (length s.bytes.items ≤ s.room) × (s.room ≤ vec_capacity s.bytes)
         × (0 < s.piece) };
@@ -44,8 +50,14 @@ impl MemSink {
     pub fn new(alloc: Global, room: usize, piece: usize) -> Result<MemSink, AllocError>
         requires { 0 < piece }
         ensures { IfOk result
-            (λ s. s ≡ record { bytes = []; room = room; piece = piece; failing = []; calls = 0;
-            faults = 0 }) }
+            (λ s. s ≡ record {
+              bytes = [];
+              room = room;
+              piece = piece;
+              failing = [];
+              calls = 0;
+              faults = 0;
+            }) }
     {
         Ok(MemSink {
             bytes: Vec::with_capacity(alloc, room)?,
@@ -106,13 +118,18 @@ impl Sink for MemSink {
             × (self.new ≡ record self.old { calls = counted self.old.calls }) }
         // A listed call, and one without room, takes nothing, and is a counted fault.
         ensures refused { 0 < length bytes.now → refuses self.old ≡ true → IsErr result
-            × (self.new ≡ record self.old { calls = counted self.old.calls;
-            faults = counted self.old.faults }) }
+            × (self.new ≡ record self.old {
+              calls = counted self.old.calls;
+              faults = counted self.old.faults;
+            }) }
         // Each other call takes its share.
         ensures shared { 0 < length bytes.now → refuses self.old ≡ false
             → IsOkAnd result (λ k. k ≡ share self.old bytes.now)
-            × (self.new ≡ record self.old { bytes = self.old.bytes
-            ++ take (share self.old bytes.now) bytes.now; calls = counted self.old.calls }) }
+            × (self.new ≡ record self.old {
+              bytes = self.old.bytes
+                  ++ take (share self.old bytes.now) bytes.now;
+              calls = counted self.old.calls;
+            }) }
         ensures some { IfOk result (λ k. 0 < length bytes.now → 0 < k) }
         ensures later { self.old.faults ≤ self.new.faults }
     {

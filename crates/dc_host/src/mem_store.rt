@@ -85,8 +85,10 @@ impl Store for MemStore {
         ensures answer { IsFetched (shelf_of self.old) name.now limit result }
         // The call and its fault were counted, and all else stays.
         ensures counts { shelf_of self.new
-            ≡ record (shelf_of self.old) { calls = counted (shelf_of self.old).calls;
-            faults = faults_after result (shelf_of self.old).faults } }
+            ≡ record (shelf_of self.old) {
+              calls = counted (shelf_of self.old).calls;
+              faults = faults_after result (shelf_of self.old).faults;
+            } }
         ensures later { (shelf_of self.old).faults ≤ (shelf_of self.new).faults }
     {
         self.calls = self.calls.saturating_add(1);

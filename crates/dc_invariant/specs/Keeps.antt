@@ -78,7 +78,7 @@ module _ (s : Graph) (printed : List (List Atom)) (budget : ℕ) where
   abbrev pub AreCaseKeeps : List Atom → Bool → List Sparse → Type 0
   AreCaseKeeps case live keeps =
       AreKeeps case s.params (λ a. (at_start s.params a).coefs) (at_start s.params) budget
-        (if live then printed_at s printed 0 else []) keeps
+      (if live then printed_at s printed 0 else []) keeps
 
   abbrev pub AreEntryKeeps : List (List Atom) → List Bool → List (List Sparse) → Type 0
   AreEntryKeeps [] live [] = Unit {0}

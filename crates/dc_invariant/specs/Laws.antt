@@ -32,7 +32,7 @@ PrintedAreAtoms =
     (s : Graph) (c : Candidates) (J : Family) (printed : List (List Atom))
     (asked : List (List Question))
     → AreCandidates s.vars c → ArePrinted s c J printed asked
-      → AllByRecursion (AllAtoms (IsFullAtom s.vars)) printed
+    → AllByRecursion (AllAtoms (IsFullAtom s.vars)) printed
 
 -- ---- keeps
 abbrev pub HasKeeping : Type 0
@@ -53,4 +53,4 @@ OneSide =
     (side : Side) (s : Graph) (cases : List (List Atom)) (live : List Bool)
     (printed : List (List Atom)) (budget : ℕ) (x y : SideCert)
     → TellsKeeps side s cases live printed budget x → TellsKeeps side s cases live printed budget y
-      → x ≡ y
+    → x ≡ y

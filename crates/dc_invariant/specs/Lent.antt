@@ -82,8 +82,8 @@ question t l q = question_asked t.side t.candidates.now (family t) l q
 abbrev pub LocationAsks : Pruning → ℕ → List Asked → Type 0
 LocationAsks t l asked =
     (printed : List Atom) × (qs : List Question)
-        × IsPrinted t.candidates.now (family t) l t.system.now.vars printed qs
-        × (asked ≡ map (question t l) qs)
+    × IsPrinted t.candidates.now (family t) l t.system.now.vars printed qs
+    × (asked ≡ map (question t l) qs)
 
 -- its printed atoms
 pub record TellsLocation (t : Pruning) (l : ℕ) (printed : List Atom) : Type 0 where
@@ -101,7 +101,7 @@ pub record IsListed (t : Pruning) (l : ℕ) (rows : List ℕ) (atoms : List Atom
 abbrev pub RowsAsk : Pruning → ℕ → List ℕ → List Asked → Type 0
 RowsAsk t l rows asked =
     (left : List ℕ) × (qs : List Question) × Pruned t.candidates.now (family t) l rows [] qs left
-        × (asked ≡ map (question t l) qs)
+    × (asked ≡ map (question t l) qs)
 
 -- and what is left of them
 pub record ArePruned (t : Pruning) (l : ℕ) (rows : List ℕ) (atoms : List Atom) : Type 0 where
@@ -167,7 +167,7 @@ pub record AreEntryKeeps (t : Keeping) (xs : List (List Sparse)) : Type 0 where
 abbrev pub IsKeepAlong : Keeping → Edge → Atom → Sparse → Type 0
 IsKeepAlong t e a k =
     IsKeep (side.kept_atoms (graph t) t.printed.now e) (edge_places t.system.now.vars e)
-      (form_after t.system.now.vars e a.coefs) (atom_after t.system.now.vars e a) t.budget k
+    (form_after t.system.now.vars e a.coefs) (atom_after t.system.now.vars e a) t.budget k
 
 -- of one live edge
 abbrev pub AlongAsks : Keeping → ℕ → Edge → List Asked → Type 0
@@ -187,7 +187,7 @@ pub record AreKeepsAlong (t : Keeping) (k : ℕ) (e : Edge) (xs : List Sparse) :
 abbrev pub EdgeAsks : Keeping → ℕ → Edge → List Asked → Type 0
 EdgeAsks t k e asked =
     (b : Bool) × IsFlag b (side.kept_atoms (graph t) t.printed.now e)
-        × (asked ≡ edge_asked t.side (graph t) t.printed.now k e b)
+    × (asked ≡ edge_asked t.side (graph t) t.printed.now k e b)
 
 pub record IsEdgePart (t : Keeping) (k : ℕ) (e : Edge) (x : EdgeCert) : Type 0 where
   pub live : Bool
@@ -199,7 +199,7 @@ pub record IsEdgePart (t : Keeping) (k : ℕ) (e : Edge) (x : EdgeCert) : Type 0
 abbrev pub EdgesAsk : Keeping → List Asked → Type 0
 EdgesAsk t asked =
     (flags : List Bool) × AreLive (graph t) t.printed.now flags
-        × (asked ≡ for_edges (edge_asked t.side (graph t) t.printed.now) 0 t.system.now.edges flags)
+    × (asked ≡ for_edges (edge_asked t.side (graph t) t.printed.now) 0 t.system.now.edges flags)
 
 pub record AreEdgeParts (t : Keeping) (xs : List EdgeCert) : Type 0 where
   pub flags : List Bool

@@ -26,4 +26,4 @@ module _ (side : Side) (c : Candidates) (J : Family) where
   abbrev pub PrunesAsk : Graph → List Asked → Type 0
   PrunesAsk s asked =
       (printed : List (List Atom)) × (questions : List (List Question))
-          × ArePrinted s c J printed questions × (asked ≡ questions_asked 0 questions)
+      × ArePrinted s c J printed questions × (asked ≡ questions_asked 0 questions)

@@ -30,7 +30,7 @@ unfoldable pub folded_over : (ℕ → Bool) → ℕ → (ℕ → ℤ) → (ℕ �
 folded_over test zero a x = Some (of_ℤ (pos 0))
 folded_over test (suc n) a x =
     if test n then option_and_then (λ s. added s (a n) (x n))
-      (folded_over test n a x) else folded_over test n a x
+    (folded_over test n a x) else folded_over test n a x
 
 -- a fold's sum: the sum of the products, and it fits
 pub record IsFitSum (n : ℕ) (a : ℕ → ℤ) (x : ℕ → ℚ) (s : ℚ) : Type 0 where

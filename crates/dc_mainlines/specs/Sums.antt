@@ -55,7 +55,7 @@ short_columns p u = length p.columns.items - u
 abbrev pub priced : Linear ℤ → ℕ → (ℕ → ℤ) → (ℕ → ℚ) → ℕ → Test
 priced m u cost y k =
     if ltb k u then is (folded m.equations (λ i. short_coefficient m u i k) y)
-      (cost (short_column m u k))
+    (cost (short_column m u k))
     else is_at_most (folded m.equations (λ i. short_coefficient m u i k) y) (pos 0)
 
 -- a row's sum is the number on the right

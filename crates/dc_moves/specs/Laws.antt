@@ -46,4 +46,4 @@ FormsAreLight = (n : ℕ) (e : Edge) (row : List ℤ) → n ≤ 10 → IsEdge n 
 abbrev pub FormsTellAtoms : Type 0
 FormsTellAtoms = (n : ℕ) (e : Edge) (hyps : List Atom) (a : Atom) → IsEdge n e
     → Entails hyps (atom_after n e a)
-      ↔ EntailsFrom hyps (form_after n e a.coefs) (of_ℤ ((atom_after n e a).c0))
+    ↔ EntailsFrom hyps (form_after n e a.coefs) (of_ℤ ((atom_after n e a).c0))

@@ -32,9 +32,9 @@ pub record OneOutcomeEach (text : List ℕ) : Type 0 where
 abbrev pub SaysByTree : List ℕ → Type 0
 SaysByTree text =
     (ts : List Token) (a : Tree Token) → length text ≤ 65536 → Tokens 0 text ts
-        → Derives language (ref source) ts a → Shallow IsDeep ts (length ts)
+    → Derives language (ref source) ts a → Shallow IsDeep ts (length ts)
     → names_fault text (parts_of a) ≡ None → forms_fault text (parts_of a) ≡ None
-      → SourceOutcome text (says (proc_of text (parts_of a)))
+    → SourceOutcome text (says (proc_of text (parts_of a)))
 
 -- what a text says as a source is a program
 abbrev pub SaysPrograms : List ℕ → Type 0
@@ -70,4 +70,4 @@ SaysItsCases text =
 abbrev pub HavePlaces : List ℕ → Type 0
 HavePlaces text =
     (ts : List Token) (a : Tree Token) (n : ℕ) → Derives language (ref source) ts a
-        → length (starts_of (parts_of a).body) ≡ length (all_faults n (body_of text (parts_of a)))
+    → length (starts_of (parts_of a).body) ≡ length (all_faults n (body_of text (parts_of a)))

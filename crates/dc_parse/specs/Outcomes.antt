@@ -37,7 +37,7 @@ pub data IsOutcome {A : Type 0} (x : Name) (judge : Tree Token → Outcome A) (t
   grammar : length text ≤ 65536 → (ts : List Token) → Tokens 0 text ts → (v : Verdict Token)
       → Finds language IsDeep x ts v
       → (f : Fault) → verdict_fault ts (length text) v ≡ Some f → o ≡ refuses f
-        → IsOutcome x judge text o
+      → IsOutcome x judge text o
   tree : length text ≤ 65536 → (ts : List Token) → Tokens 0 text ts → (a : Tree Token)
       → Finds language IsDeep x ts (whole a) → o ≡ judge a → IsOutcome x judge text o
 

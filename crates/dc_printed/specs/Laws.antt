@@ -66,4 +66,4 @@ DeepWhereMany =
     (text : List ℕ) (ts : List Token) (a : Tree Token) → Tokens 0 text ts
     → Derives language (ref source) ts a
     → (Shallow IsDeep ts (length ts) → HasFew text ts a)
-      × (HasFew text ts a → Shallow IsDeep ts (length ts))
+    × (HasFew text ts a → Shallow IsDeep ts (length ts))

@@ -35,7 +35,7 @@ single_rows n = flat_map (rows_of_one n) (range_with_len 0 n)
 abbrev pub rows_of_two : ℕ → ℕ → ℕ → List Row
 rows_of_two n j k =
     together n j (pos 1) k (negsuc 0) ∷ together n j (negsuc 0) k (pos 1)
-      ∷ together n j (pos 1) k (pos 1) ∷ together n j (negsuc 0) k (negsuc 0) ∷ []
+    ∷ together n j (pos 1) k (pos 1) ∷ together n j (negsuc 0) k (negsuc 0) ∷ []
 
 -- with each later variable in order
 abbrev pub later_rows : ℕ → ℕ → List Row

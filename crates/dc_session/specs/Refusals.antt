@@ -77,7 +77,7 @@ of_main match.NoMemory = None
 abbrev pub main_excess : Input → Analysis → Option Excess
 main_excess i a =
     option_and_then of_main
-      (mains.size_fault (pair_of i a) i.settings.degree i.settings.products (flags_of i a))
+    (mains.size_fault (pair_of i a) i.settings.degree i.settings.products (flags_of i a))
 
 -- ---- the steps, in order: the counts, the problems before the main one, the main problem's counts, the
 -- main problem, and the checker's clauses over the certificate that is made

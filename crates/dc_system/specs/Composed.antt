@@ -72,11 +72,11 @@ forms_fit (p ∷ ps) = form_fits p && forms_fit ps
 abbrev pub can_compose : ℕ → Edge → Edge → Bool
 can_compose n e f =
     not (e.any && f.any)
-      && (all_flat e.update
-      && (leb (length e.guard + length f.guard) 256
-      && (atoms_fit (atoms_at (n + 1) f.guard (after n e))
-      && (forms_fit (forms_at f.update (after n e))
-      && form_fits (sum_of e.cost (composition_of f.cost (after n e)))))))
+    && (all_flat e.update
+    && (leb (length e.guard + length f.guard) 256
+    && (atoms_fit (atoms_at (n + 1) f.guard (after n e))
+    && (forms_fit (forms_at f.update (after n e))
+    && form_fits (sum_of e.cost (composition_of f.cost (after n e)))))))
 
 abbrev pub compose_of : ℕ → Edge → Edge → Option Edge
 compose_of n e f = if can_compose n e f then Some (composed n e f) else None

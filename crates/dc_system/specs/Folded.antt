@@ -66,5 +66,10 @@ pub record IsFolded (s t : System) : Type 0 where
   pub edges : List Edge
   pub folding : Folding s.vars (s.locs - 1) (numbers_below s.locs) s.edges left edges
   pub ended : (l : ℕ) → fold_at s.vars (s.locs - 1) edges l ≡ None
-  pub is : t ≡ record { vars = s.vars; params = s.params; locs = length left;
-      edges = map (renumbered left) edges; literals = s.literals }
+  pub is : t ≡ record {
+    vars = s.vars;
+    params = s.params;
+    locs = length left;
+    edges = map (renumbered left) edges;
+    literals = s.literals;
+  }

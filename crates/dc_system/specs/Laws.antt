@@ -97,7 +97,7 @@ OneFoldKeepsPaths =
     (n x : ℕ) (es : List Edge) (l : ℕ) (c : Edge) → AllByRecursion (IsEdge n) es
     → fold_at n x es l ≡ Some c
     → (s : State) (a : ℤ) (t : State) → length s ≡ n → Path (folded l c es) 0 s a x t
-      ↔ Path es 0 s a x t
+    ↔ Path es 0 s a x t
 
 -- new numbers for the locations that are left change nothing but the numbers
 abbrev pub NewNumbersKeepPaths : Type 0

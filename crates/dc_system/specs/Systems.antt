@@ -36,5 +36,5 @@ counted n = min n (2 ^ 64 - 1)
 abbrev pub size_fault : Proc → Option SystemFault
 size_fault p =
     if ltb 128 (locations_of p) then Some (TooLarge Locations (counted (locations_of p))) else
-      (if ltb 512 (length (edges_of p)) then Some
-      (TooLarge Edges (counted (length (edges_of p)))) else None)
+    (if ltb 512 (length (edges_of p)) then Some
+    (TooLarge Edges (counted (length (edges_of p)))) else None)

@@ -62,10 +62,10 @@ pub record IsExtended (block : Block) (old new : Table) : Type 0 where
   pub rows : new.rows ≡ old.rows + length block.monos.items
   pub unknowns : lists new.unknowns.items
       ≡ extended (lists old.unknowns.items)
-        (flat_map (both_entries old.rows block.monos.items) block.parts.items)
+      (flat_map (both_entries old.rows block.monos.items) block.parts.items)
   pub products : lists new.products.items
       ≡ lists old.products.items
-        ++ map (opposite_entries old.rows block.monos.items) block.products.items
+      ++ map (opposite_entries old.rows block.monos.items) block.products.items
   pub b : new.b.items ≡ old.b.items ++ map (coef (negated block.rest.terms)) block.monos.items
 
 -- ---- the problem of a table
@@ -94,7 +94,7 @@ module _ (p : Pair) (d k : ℕ) where
   product_columns r [] = []
   product_columns r (o ∷ os) =
       map (opposite_entries r (monos_at o)) (products_at p k o)
-        ++ product_columns (r + length (monos_at o)) os
+      ++ product_columns (r + length (monos_at o)) os
 
   pub record IsTable (os : List Duty) (t : Table) : Type 0 where
     pub rows : t.rows ≡ length (equations_in os)

@@ -59,8 +59,12 @@ pub data Piece : ℕ → List ℕ → Option Token → ℕ → Type 0 where
   comment : {at n : ℕ} {bs : List ℕ} → IsComment bs n → Piece at bs None n
   token : {at n : ℕ} {bs : List ℕ} {kind : TokenKind} → Longest bs n kind
       → value_of kind (take n bs) ≤ 2147483647
-      → Piece at bs (Some (record { kind = kind; at = at; end = at + n;
-        value = value_of kind (take n bs) })) n
+      → Piece at bs (Some (record {
+        kind = kind;
+        at = at;
+        end = at + n;
+        value = value_of kind (take n bs);
+      })) n
 
 -- what is wrong at the front of a text, and where
 pub data Wrong : ℕ → List ℕ → LexFault → Type 0 where

@@ -11,7 +11,7 @@ use Rattle.dc_trace.specs.Ends.{Pays, Ends}
 abbrev pub EndsOnce : Type 0
 EndsOnce = (fits : ℤ → Bool) (turns : ℕ) (x : Config)
     → (r : Result ℤ TraceFault) × Ends fits turns x r
-      × ((q : Result ℤ TraceFault) → Ends fits turns x q → q ≡ r)
+    × ((q : Result ℤ TraceFault) → Ends fits turns x q → q ≡ r)
 
 -- what a replay pays is a cost on its input
 abbrev pub PaidIsCost : Type 0

@@ -37,7 +37,7 @@ IsTurn t (Err H.NoMemory) y = Unit {0}
 abbrev pub Makes : {A : Type 0} → Stmt → Stmt-F Stmt → List Stmt → Walk → Result A Halt → Walk → Type 0
 Makes S L R w r v =
     IsTurn (turn_of is_small S L (R ++ todo_at w.places.items) w.state.items w.cost w.choices.now) r
-      (seen v)
+    (seen v)
 
 -- the next choice of two, 1 or 0; without one or with another number it says which
 abbrev pub IsDecided : List ℤ → Result Bool Halt → List ℤ → Type 0

@@ -29,7 +29,7 @@ pub data Reading : Type 0 where
 abbrev pub reading_of : Words → Reading
 reading_of (Analyse new_name old_name when degree products pairs pivots) =
     for_analyse (string_bytes new_name) (string_bytes old_name) (option_map string_bytes when)
-      (record { degree = degree; products = products; pairs = pairs; pivots = pivots })
+    (record { degree = degree; products = products; pairs = pairs; pivots = pivots })
 reading_of (Check new_name old_name cert_name when) =
     for_check (string_bytes new_name) (string_bytes old_name) (string_bytes cert_name)
     (option_map string_bytes when)

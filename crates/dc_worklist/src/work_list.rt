@@ -31,8 +31,10 @@ impl Model for WorkList {
 
     ghost use Rattle.dc_worklist.specs.Links.{linked_from, AreLinked};
 
-    ghost view = { λ w. record { edges = length w.places.items;
-        numbers = linked_from 0 w.places.items } };
+    ghost view = { λ w. record {
+      edges = length w.places.items;
+      numbers = linked_from 0 w.places.items;
+    } };
 
     ghost invariant = { λ w. AreLinked w.places.items w.first };
 }
