@@ -1,4 +1,5 @@
 pub mod Words
+pub mod Halving
 pub mod ShortWays
 pub mod Values
 pub mod SumLaws

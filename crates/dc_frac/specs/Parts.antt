@@ -1,5 +1,5 @@
 -- What the functions on numerators and denominators answer.
-use Rattle.std.specs.Prelude.{ℤ, pos, ◌+ℤ◌, ◌*ℤ◌, int_div, FitsSigned}
+use Rattle.std.specs.Prelude.{◌≡◌, ℕ, ◌*◌, ◌%◌, ◌^◌, ℤ, pos, ◌+ℤ◌, ◌*ℤ◌, int_div, FitsSigned}
 use Rattle.std.specs.Int.{w64}
 use Rattle.dc_math.specs.Quotients.{gcd_ℤ}
 use Rattle.dc_frac.specs.Fits.{IsSmall, sum_total, sum_num, sum_den}
@@ -49,3 +49,8 @@ pub record ProductFits (a b c d : ℤ) : Type 0 where
 
 abbrev pub product_pair : ℤ → ℤ → ℤ → ℤ → ℤ × ℤ
 product_pair a b c d = (product_num a b c d, product_den a b c d)
+
+-- t halvings of n leave the odd number m
+pub record IsOddPart (n t m : ℕ) : Type 0 where
+  pub is : n ≡ m * 2 ^ t
+  pub odd : m % 2 ≡ 1

@@ -1,10 +1,6 @@
-use Rattle.std.proofs.Common.{arith}
-use Rattle.std.proofs.lemmas.Nat.Gcd.{IsGcd-from_zero, IsGcd-from_mod}
-use Rattle.dc_math.specs.Gcd.{IsGcd-gcd}
+use Rattle.std.proofs.Common.{◌∙◌}
+use Rattle.dc_frac.proofs.Halving.{gcd-swap}
 use Rattle.dc_frac.proofs.gcd.gcd_words.Goals as goal
 
-pub loop-y-preserved : goal.loop-y-preserved
-loop-y-preserved c g h = c.loop-y.invariant g (IsGcd-from_mod _ _ g h)
-
-pub returns : goal.returns
-returns c = IsGcd-gcd _ _ _ (c.loop-y.invariant _ (IsGcd-from_zero _ _ (omega arith)))
+pub returns-then-a-b : goal.returns-then-a-b
+returns-then-a-b c = c.gcd_ordered.ensures ∙ gcd-swap c.args.b c.args.a
