@@ -20,21 +20,31 @@ pub record FormsByParts : Type 0 where
   pub var : (n k : ℕ) → form_of n (Var k) ≡ variable k n
   pub neg : (n : ℕ) (a : Expr) → form_of n (Neg a) ≡ negation_of (form_of n a)
   pub add : (n : ℕ) (a b : Expr) → form_of n (Add a b) ≡ sum_of (form_of n a) (form_of n b)
-  pub sub : (n : ℕ) (a b : Expr) → form_of n (Sub a b) ≡ sum_of (form_of n a) (negation_of (form_of n b))
+  pub sub : (n : ℕ) (a b : Expr)
+      → form_of n (Sub a b) ≡ sum_of (form_of n a) (negation_of (form_of n b))
   pub mul : (n : ℕ) (a b : Expr) → form_of n (Mul a b) ≡ product_of (form_of n a) (form_of n b)
 
 -- its first fault: left operand, right operand, then the whole
 pub record FaultsByParts : Type 0 where
   pub num : (n k : ℕ) → fault_of n (Num k) ≡ own_fault (form_of n (Num k)).terms
   pub var : (n k : ℕ) → fault_of n (Var k) ≡ own_fault (form_of n (Var k)).terms
-  pub neg : (n : ℕ) (a : Expr) → fault_of n (Neg a) ≡ option_or (fault_of n a) (own_fault (form_of n (Neg a)).terms)
-  pub add : (n : ℕ) (a b : Expr) → fault_of n (Add a b) ≡ option_or (option_or (fault_of n a) (fault_of n b)) (own_fault (form_of n (Add a b)).terms)
-  pub sub : (n : ℕ) (a b : Expr) → fault_of n (Sub a b) ≡ option_or (option_or (fault_of n a) (fault_of n b)) (own_fault (form_of n (Sub a b)).terms)
-  pub mul : (n : ℕ) (a b : Expr) → fault_of n (Mul a b) ≡ option_or (option_or (fault_of n a) (fault_of n b)) (own_fault (form_of n (Mul a b)).terms)
+  pub neg : (n : ℕ) (a : Expr)
+      → fault_of n (Neg a) ≡ option_or (fault_of n a) (own_fault (form_of n (Neg a)).terms)
+  pub add : (n : ℕ) (a b : Expr)
+      → fault_of n (Add a b)
+      ≡ option_or (option_or (fault_of n a) (fault_of n b)) (own_fault (form_of n (Add a b)).terms)
+  pub sub : (n : ℕ) (a b : Expr)
+      → fault_of n (Sub a b)
+      ≡ option_or (option_or (fault_of n a) (fault_of n b)) (own_fault (form_of n (Sub a b)).terms)
+  pub mul : (n : ℕ) (a b : Expr)
+      → fault_of n (Mul a b)
+      ≡ option_or (option_or (fault_of n a) (fault_of n b)) (own_fault (form_of n (Mul a b)).terms)
 
 -- the value of the form of an expression, at any state, is the value of the expression
 abbrev pub FormsHaveValues : Type 0
-FormsHaveValues = (n : ℕ) (e : Expr) (s : State) → is_below n e ≡ true → value (form_of n e).terms s ≡ tree.value e s
+FormsHaveValues =
+    (n : ℕ) (e : Expr) (s : State) → is_below n e ≡ true
+    → value (form_of n e).terms s ≡ tree.value e s
 
 -- the facts of a condition, or of its negation, by those of its parts
 pub record CasesByParts : Type 0 where
@@ -56,7 +66,9 @@ told c negated s = if negated then not (truth c s) else truth c s
 
 -- some conjunction holds at a state exactly where the condition, or its negation, is true
 abbrev pub CasesTell : Type 0
-CasesTell = (n : ℕ) (c : Cond) (negated : Bool) (s : State) → cond_is_below n c ≡ true → comparison_fault n c ≡ None → some_hold (conjunctions_of n c negated) s ≡ told c negated s
+CasesTell =
+    (n : ℕ) (c : Cond) (negated : Bool) (s : State) → cond_is_below n c ≡ true
+    → comparison_fault n c ≡ None → some_hold (conjunctions_of n c negated) s ≡ told c negated s
 
 -- the same of the facts, whatever the degrees
 abbrev pub FactsTell : Type 0

@@ -1,4 +1,5 @@
--- What later crates require of a whole procedure: its variables are declared, and every form and condition passes.
+-- What later crates require of a whole procedure: its variables are declared, and every form and
+-- condition passes.
 use Rattle.std.specs.Prelude.{◌≡◌, ℕ, Bool, true, false, ◌&&◌, ltb, List, [], ◌∷◌, length, Some, None}
 use Rattle.std.specs.declared.option.Option.{Option}
 use Rattle.std.specs.Option.{option_or}

@@ -14,7 +14,8 @@ use std::alloc::{AllocError, Global};
 
 /// "The constant and the sum of the coefficients times the places is at least 0."
 ///
-/// A missing coefficient is 0. Coefficients have size at most 2147483647, the constant at most 2147483648.
+/// A missing coefficient is 0. Coefficients have size at most 2147483647, the constant at most
+/// 2147483648.
 #[derive(Debug, Drop)]
 pub struct Atom {
     pub c0: i64,
@@ -50,7 +51,8 @@ fn of_variable(alloc: Global, form: &Poly, index: usize, turned: bool) -> Result
     requires kind { IsPolynomial form.now }
     requires inside { index < form.now.places }
     requires fits { coefs_fit form.now.terms ≡ true }
-    ensures value { IfOk result (λ c. c ≡ signed_coef turned form.now.terms (unit_at form.now.places index)) }
+    ensures value { IfOk result
+        (λ c. c ≡ signed_coef turned form.now.terms (unit_at form.now.places index)) }
     ensures small { IfOk result (λ c. unsigned_abs c ≤ 2147483647) }
 {
     let unit = Mono::unit(alloc, index, form.places())?;
@@ -74,7 +76,8 @@ fn constant(alloc: Global, form: &Poly, turned: bool) -> Result<i64, AllocError>
 fn coefficients(alloc: Global, form: &Poly, turned: bool) -> Result<Vec<i64>, AllocError>
     requires kind { IsPolynomial form.now }
     requires fits { coefs_fit form.now.terms ≡ true }
-    ensures { IfOk result (λ v. v.items ≡ map (signed_coef turned form.now.terms) (units form.now.places)) }
+    ensures { IfOk result
+        (λ v. v.items ≡ map (signed_coef turned form.now.terms) (units form.now.places)) }
 {
     let places = form.places();
     let mut coefs = Vec::new(alloc);

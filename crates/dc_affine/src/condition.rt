@@ -135,7 +135,8 @@ fn width(c: &Cond, negated: bool) -> usize
 fn widths(left: usize, right: usize, cross: bool) -> usize
     requires left { left ≤ 65 }
     requires right { right ≤ 65 }
-    ensures { (m n : ℕ) → left ≡ min m 65 → right ≡ min n 65 → result ≡ min (if cross then m * n else m + n) 65 }
+    ensures { (m n : ℕ) → left ≡ min m 65 → right ≡ min n 65
+        → result ≡ min (if cross then m * n else m + n) 65 }
 {
     if cross {
         (left * right).min(WIDEST + 1)
@@ -162,7 +163,8 @@ fn extended(
     case: &[Atom],
     cases: &[Vec<Atom>],
 ) -> Result<(), AllocError>
-    ensures { OnOk result (cases_of out.new.items ≡ cases_of out.old.items ++ after case.now (cases_of cases.now)) }
+    ensures { OnOk result
+        (cases_of out.new.items ≡ cases_of out.old.items ++ after case.now (cases_of cases.now)) }
 {
     for more in cases {
         let mut both = Vec::new(alloc);
@@ -197,7 +199,8 @@ fn combine(
     right: Vec<Vec<Atom>>,
     crossing: bool,
 ) -> Result<Vec<Vec<Atom>>, AllocError>
-    ensures { IfOk result (λ v. cases_of v.items ≡ combined crossing (cases_of left.items) (cases_of right.items)) }
+    ensures { IfOk result
+        (λ v. cases_of v.items ≡ combined crossing (cases_of left.items) (cases_of right.items)) }
 {
     if crossing {
         return cross(alloc, left.as_slice(), right.as_slice());
@@ -231,7 +234,8 @@ fn never(alloc: Global, places: usize) -> Result<Vec<Atom>, AllocError>
 // The one case without atoms, or the one of an atom that never holds.
 fn constant(alloc: Global, truth: bool, places: usize) -> Result<Vec<Vec<Atom>>, AllocError>
     requires { places ≤ 11 }
-    ensures { IfOk result (λ v. cases_of v.items ≡ (if truth then [] ∷ [] else (atom_of places falsity ∷ []) ∷ [])) }
+    ensures { IfOk result
+        (λ v. cases_of v.items ≡ (if truth then [] ∷ [] else (atom_of places falsity ∷ []) ∷ [])) }
 {
     if truth {
         return one_case(alloc, Vec::new(alloc));
@@ -288,14 +292,16 @@ fn judge_width(c: &Cond, negated: bool) -> Result<(), FormFault>
 
 /// The conjunctions of a condition, or of its negation, as atoms with one coefficient per place.
 ///
-/// Negation is pushed inward: `a < b` is the one atom `b - a - 1`, `a != b` the two cases `b - a - 1` and
-/// `a - b - 1`, `&&` crosses the cases of its operands, the left one outermost, and `||` puts those of the
-/// right one after those of the left one. `true` is one case without atoms, `false` one case of the atom -1.
+/// Negation is pushed inward: `a < b` is the one atom `b - a - 1`, `a != b` the two cases `b - a -
+/// 1` and `a - b - 1`, `&&` crosses the cases of its operands, the left one outermost, and `||`
+/// puts those of the right one after those of the left one. `true` is one case without atoms,
+/// `false` one case of the atom -1.
 ///
-/// Comparisons are taken from left to right: the faults of [`normal`] of the left side, of the right side,
-/// then `NotAffine` exactly where their difference has degree 2, then `CoefficientRange` exactly where it has
-/// a coefficient above 2147483647 in size. After all comparisons, `ConditionTooWide` exactly where there are
-/// more than 64 conjunctions; they are counted, not built.
+/// Comparisons are taken from left to right: the faults of [`normal`] of the left side, of the
+/// right side, then `NotAffine` exactly where their difference has degree 2, then
+/// `CoefficientRange` exactly where it has a coefficient above 2147483647 in size. After all
+/// comparisons, `ConditionTooWide` exactly where there are more than 64 conjunctions; they are
+/// counted, not built.
 #[tactic(auto, using(crate::proofs::Widths::widest))]
 pub fn dnf(
     alloc: Global,

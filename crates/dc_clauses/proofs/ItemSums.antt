@@ -1,19 +1,19 @@
 -- Sums over the items of a sparse vector are those over the vector that it stands for.
-use Rattle.std.specs.Prelude.{◌≡◌, ℕ, zero, suc, ◌≤◌, ◌<◌, cond, List, [], ◌∷◌, length, take, slice_get, slice_index_or, All, ℤ, pos, Option, Some, None}
+use Rattle.std.specs.Prelude.{◌≡◌, ℕ, zero, suc, ◌≤◌, ◌<◌, cond, List, [], ◌∷◌, length, take, slice_get, ℤ, pos, Option, Some, None}
 use Rattle.std.specs.Option.{option_and_then}
-use Rattle.std.proofs.Common.{refl, sym, ◌∙◌, ap, arith, subst}
+use Rattle.std.proofs.Common.{refl, sym, ◌∙◌, ap, arith}
 use Rattle.std.proofs.lemmas.Bool.{eq-eqb, ne_eqb}
 use Rattle.dc_math.specs.Rational.{ℚ, of_ℤ}
 use Rattle.dc_frac.specs.declared.Frac.{Frac}
 use Rattle.dc_frac.specs.Value.{value}
-use Rattle.dc_lp.specs.Folds.{numbers, added, folded, IsFitSum}
+use Rattle.dc_lp.specs.Folds.{numbers, added, folded}
 use Rattle.dc_lp.proofs.FoldSums.{folded-fits, folded-sum}
 use Rattle.dc_lp.proofs.Folding.{folded-none, numbers-at}
 use Rattle.dc_cert.specs.declared.sparse.Item.{Item}
 use Rattle.dc_cert.specs.declared.sparse.Sparse.{Sparse}
-use Rattle.dc_cert.specs.Vectors.{AreItems, IsVector, IsDense, IsBelow, entry_after, entry_of}
+use Rattle.dc_cert.specs.Vectors.{AreItems, IsDense, entry_after, entry_of}
 use Rattle.dc_cert.proofs.Returned.{entry-before}
-use Rattle.dc_clauses.specs.Items.{items_sum, sum_over, AreSums, SumsOverItems}
+use Rattle.dc_clauses.specs.Items.{items_sum, sum_over, SumsOverItems}
 use Rattle.dc_clauses.proofs.Items.{folded_same, folded-zeros, folded-step, items_sum-folded}
 
 item_same : (b i : Item) → Some b ≡ Some i → b ≡ i

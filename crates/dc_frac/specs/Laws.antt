@@ -39,7 +39,8 @@ pub record Products : Type 0 where
       → IsSameFraction (fraction_mul (fraction_mul p q) r) (fraction_mul p (fraction_mul q r))
   pub mul_one : (p : Fraction) → IsSameFraction (fraction_mul p (fraction_of (pos 1))) p
   pub mul_add : (p q r : Fraction)
-      → IsSameFraction (fraction_mul p (fraction_add q r)) (fraction_add (fraction_mul p q) (fraction_mul p r))
+      → IsSameFraction (fraction_mul p (fraction_add q r))
+      (fraction_add (fraction_mul p q) (fraction_mul p r))
 
 pub record Order : Type 0 where
   pub at_most_refl : (p : Fraction) → IsAtMost p p

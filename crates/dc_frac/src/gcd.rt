@@ -23,7 +23,8 @@ fn lesser(a: u64, b: u64) -> u64
     if a < b { a } else { b }
 }
 
-// The difference of two odd numbers is even, and what divides both divides its odd part. No step divides.
+// The difference of two odd numbers is even, and what divides both divides its odd part. No step
+// divides.
 fn gcd_odd(a: u64, b: u64) -> u64
     requires a { a % 2 ≡ 1 }
     requires b { b % 2 ≡ 1 }
@@ -76,8 +77,8 @@ fn gcd_words(a: u64, b: u64) -> u64
     }
 }
 
-// Euclid's steps. A 128-bit division is a call of a routine, a 64-bit one an instruction: once both numbers fit 64 bits the
-// steps go on there.
+// Euclid's steps. A 128-bit division is a call of a routine, a 64-bit one an instruction: once both
+// numbers fit 64 bits the steps go on there.
 fn gcd_sizes(a: u128, b: u128) -> u128
     ensures { result ≡ gcd a b }
 {
@@ -97,8 +98,8 @@ fn gcd_sizes(a: u128, b: u128) -> u128
     }
 }
 
-/// The greatest common divisor of two numbers of size at most `MAX`, never negative; 0 for 0 and 0. By Euclid's steps,
-/// and by binary ones once both fit 64 bits.
+/// The greatest common divisor of two numbers of size at most `MAX`, never negative; 0 for 0 and 0.
+/// By Euclid's steps, and by binary ones once both fit 64 bits.
 pub fn gcd128(a: i128, b: i128) -> i128
     requires a_small { IsSmall a }
     requires b_small { IsSmall b }

@@ -1,5 +1,5 @@
-//! Laws of pairs of whole numbers that need not be reduced, and of what fits. Each function has no code:
-//! what it ensures is the law.
+//! Laws of pairs of whole numbers that need not be reduced, and of what fits. Each function has no
+//! code: what it ensures is the law.
 
 ghost use Rattle.dc_frac.specs.Laws.{Equality, Sums, Products, Order, Numbers, LowestTerms, Floors, CommonDivisors, ZeroSums, SmallNumbers};
 
@@ -28,7 +28,8 @@ pub fn numbers()
     ensures { Numbers }
 {}
 
-/// A number has one pair in lowest terms, and a fraction's parts are that pair: a fraction is fixed by its value.
+/// A number has one pair in lowest terms, and a fraction's parts are that pair: a fraction is fixed
+/// by its value.
 pub fn lowest_terms()
     ensures { LowestTerms }
 {}
@@ -48,8 +49,8 @@ pub fn sums_with_zero()
     ensures { ZeroSums }
 {}
 
-/// Lowest terms are no larger than the parts of any pair of their number: where parts are small, reduced or not,
-/// products, quotients, sums and differences fit.
+/// Lowest terms are no larger than the parts of any pair of their number: where parts are small,
+/// reduced or not, products, quotients, sums and differences fit.
 pub fn small_numbers()
     ensures { SmallNumbers }
 {}

@@ -1,8 +1,9 @@
 //! Exact fractions of 128 bits.
 //!
-//! A [`Frac`] is a rational number in lowest terms whose parts have a size of at most [`MAX`].
-//! Sums and products are exact, and `None` where they do not fit; nothing is rounded, nothing overflows, and no call allocates.
-//! The methods are those of Knuth, The Art of Computer Programming, volume 2, section 4.5.1.
+//! A [`Frac`] is a rational number in lowest terms whose parts have a size of at most [`MAX`]. Sums
+//! and products are exact, and `None` where they do not fit; nothing is rounded, nothing overflows,
+//! and no call allocates. The methods are those of Knuth, The Art of Computer Programming, volume
+//! 2, section 4.5.1.
 #![tactic(auto)]
 
 mod gcd;
@@ -19,7 +20,8 @@ pub use crate::gcd::gcd128;
 /// The greatest size of a numerator and of a denominator: 2^127 - 1.
 pub const MAX: i128 = i128::MAX;
 
-/// A fraction in lowest terms: the denominator is at least 1, zero is 0/1, and both parts have a size of at most `MAX`.
+/// A fraction in lowest terms: the denominator is at least 1, zero is 0/1, and both parts have a
+/// size of at most `MAX`.
 #[derive(Clone, Copy, Debug, PartialEq, Eq)]
 pub struct Frac {
     pub num: i128,

@@ -35,9 +35,9 @@ impl Frac {
         Frac { num, den: 1 }
     }
 
-    /// The sum; `None` exactly where it doesn't fit. For a/b + c/d let g = gcd(b, d), u = a*(d/g), v = c*(b/g), w = u + v and
-    /// e = gcd(w, g): the sum is (w/e) / ((b/g)*(d/e)), and it fits where u, v, w and that denominator have a size of at most
-    /// `MAX`.
+    /// The sum; `None` exactly where it doesn't fit. For a/b + c/d let g = gcd(b, d), u = a*(d/g),
+    /// v = c*(b/g), w = u + v and e = gcd(w, g): the sum is (w/e) / ((b/g)*(d/e)), and it fits
+    /// where u, v, w and that denominator have a size of at most `MAX`.
     pub fn add(self, other: Frac) -> Option<Frac>
         ensures { IsChecked result (sum_fits (value self) (value other)) (value self +ℚ value other) }
     {
@@ -47,23 +47,27 @@ impl Frac {
 
     /// The difference; `None` exactly where the sum with the negation doesn't fit.
     pub fn sub(self, other: Frac) -> Option<Frac>
-        ensures { IsChecked result (difference_fits (value self) (value other)) (value self -ℚ value other) }
+        ensures { IsChecked result (difference_fits (value self) (value other))
+            (value self -ℚ value other) }
     {
         self.add(other.neg())
     }
 
     /// The product; `None` exactly where a part of its lowest terms passes `MAX` in size.
     pub fn mul(self, other: Frac) -> Option<Frac>
-        ensures { IsChecked result (product_fits (value self) (value other)) (value self *ℚ value other) }
+        ensures { IsChecked result (product_fits (value self) (value other))
+            (value self *ℚ value other) }
     {
         let (num, den) = product_parts(self.num, self.den, other.num, other.den)?;
         Some(Frac { num, den })
     }
 
-    /// The quotient by a number that isn't 0; `None` exactly where a part of its lowest terms passes `MAX` in size.
+    /// The quotient by a number that isn't 0; `None` exactly where a part of its lowest terms
+    /// passes `MAX` in size.
     pub fn div(self, other: Frac) -> Option<Frac>
         requires { IsFalse (is_zero (value other)) }
-        ensures { IsChecked result (quotient_fits (value self) (value other)) (value self /ℚ value other) }
+        ensures { IsChecked result (quotient_fits (value self) (value other))
+            (value self /ℚ value other) }
     {
         self.mul(other.reciprocal())
     }

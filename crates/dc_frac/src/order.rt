@@ -10,8 +10,9 @@ use std::cmp::Ordering;
 
 const WORD: u128 = 0xffff_ffff_ffff_ffff;
 
-// a/b against c/d by whole parts, and where these are equal by the remainders: r/b is below s/d where d/s is below b/r.
-// Products of words can't overflow, so those are compared at once, which saves the divisions.
+// a/b against c/d by whole parts, and where these are equal by the remainders: r/b is below s/d
+// where d/s is below b/r. Products of words can't overflow, so those are compared at once, which
+// saves the divisions.
 fn compare_sizes(a: u128, b: u128, c: u128, d: u128) -> Ordering
     requires b { 0 < b }
     requires d { 0 < d }

@@ -18,7 +18,8 @@ pub(crate) fn is_word(a: i128) -> bool
     LEAST_WORD <= a && a <= GREATEST_WORD
 }
 
-// The product of two words can't overflow, which saves the product of double width by which `checked_mul` finds out.
+// The product of two words can't overflow, which saves the product of double width by which
+// `checked_mul` finds out.
 pub(crate) fn small_product(a: i128, b: i128) -> Option<i128>
     ensures { SomeIff result (IsSmall (a *ℤ b)) (a *ℤ b) }
 {
@@ -40,7 +41,8 @@ pub(crate) fn small_sum(a: i128, b: i128) -> Option<i128>
     if sum == i128::MIN { None } else { Some(sum) }
 }
 
-// By 1 nothing is divided, and words by the machine's own instruction; a 128-bit division is a call of a routine.
+// By 1 nothing is divided, and words by the machine's own instruction; a 128-bit division is a call
+// of a routine.
 pub(crate) fn quotient(a: i128, d: i128) -> i128
     requires { pos 1 ≤ℤ d }
     ensures { result ≡ int_div a d }
@@ -71,7 +73,8 @@ fn sum_over(a: i128, c: i128, d: i128) -> Option<(i128, i128)>
     Some((quotient(total, shared), quotient(d, shared)))
 }
 
-// a/b + c/d where b and d have no common divisor: the sum is in lowest terms. Saves a common divisor and four divisions.
+// a/b + c/d where b and d have no common divisor: the sum is in lowest terms. Saves a common
+// divisor and four divisions.
 fn sum_apart(a: i128, b: i128, c: i128, d: i128) -> Option<(i128, i128)>
     ensures { SomeIff result (ApartFits a b c d) (apart_pair a b c d) }
 {
@@ -126,8 +129,9 @@ fn product_whole(a: i128, c: i128) -> Option<(i128, i128)>
     Some((small_product(a, c)?, 1))
 }
 
-// The numerator and denominator of the product of a/b and c/d in lowest terms: what divides a numerator and the other's
-// denominator is taken out first, so that nothing is computed that is larger than the answer.
+// The numerator and denominator of the product of a/b and c/d in lowest terms: what divides a
+// numerator and the other's denominator is taken out first, so that nothing is computed that is
+// larger than the answer.
 pub(crate) fn product_parts(a: i128, b: i128, c: i128, d: i128) -> Option<(i128, i128)>
     requires b { pos 1 ≤ℤ b }
     requires d { pos 1 ≤ℤ d }
