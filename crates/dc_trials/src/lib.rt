@@ -1,9 +1,5 @@
-<<<<<<< HEAD
-//! Tests of the language: tokens, sources, trees and their printed texts, conditions, systems and
-//! folded systems.
-=======
-//! Tests of the language: tokens, sources, trees and their printed texts, conditions, systems, folded systems, and linear forms after an update.
->>>>>>> f810021bfde2dcd5a68978ff1d286f20ab6121fa
+//! Tests of the language: tokens, sources, trees and their printed texts, conditions, systems, folded
+//! systems, and linear forms after an update.
 //!
 //! The crate has no function of its own. Each expected value was written by hand from
 //! `docs/language.md` and from the table of what each statement adds to a system.
