@@ -27,7 +27,8 @@ pub record AreSums (n : ℕ) (a : ℕ → ℤ) (s : Sparse) : Type 0 where
   -- a sum that fits is the dot product
   pub value : (t : ℚ) → sum_over a s.items ≡ Some t → IsFitSum n a (entry_of s.items) t
   -- the sum over the first k items is that over the entries before the next item's index, value and fit
-  pub first : (k : ℕ) (i : Item) → slice_get s.items k ≡ Some i → sum_over a (take k s.items) ≡ folded i.index a (entry_of s.items)
+  pub first : (k : ℕ) (i : Item) → slice_get s.items k ≡ Some i
+      → sum_over a (take k s.items) ≡ folded i.index a (entry_of s.items)
 
 abbrev pub SumsOverItems : Type 0
 SumsOverItems = (n : ℕ) (a : ℕ → ℤ) (s : Sparse) → IsVector s → All (IsBelow n) s.items → AreSums n a s
