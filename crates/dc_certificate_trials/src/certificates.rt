@@ -1,9 +1,14 @@
 //! Texts of certificates: what is read from them, and what is written again.
-use dc_cert::{Body, Claim, sparse_of};
+ghost use Rattle.dc_cert.specs.Ranges.{IsCertificate};
+ghost use Rattle.dc_cert.specs.Vectors.{IsVector};
+
+use dc_cert::{Body, Certificate, Claim, Sparse, sparse_of};
 use dc_certtext::{
-    ReadFault, read_cert, read_items, write_cert, write_claim, write_fraction, write_items,
+    ReadFault, WriteFault, read_cert, read_items, write_cert, write_claim, write_fraction,
+    write_items,
 };
 use dc_frac::Frac;
+use sqlite_items::Items;
 use std::alloc::{AllocError, Global};
 use std::process::Abort;
 use std::test::Fail;
@@ -506,6 +511,49 @@ fn a_text_of_the_greatest_length(rt: HostRuntime) -> Result<(), Fail> {
     assert_eq!(rt; longer.len(), 16777217);
     assert_eq!(rt; refused_at(alloc, longer.as_str())?, 72);
     Ok(())
+}
+
+// The certificate with another claim: every threshold, with this ray.
+fn vacuous(alloc: Global, c: Certificate, ray: Sparse) -> Certificate
+    requires c { IsCertificate c }
+    requires ray { IsVector ray }
+    ensures { IsCertificate result }
+{
+    let mut other = c;
+    other.body = Body::Vacuous {
+        unknown: Sparse {
+            items: Items::new(alloc),
+        },
+        lambda: Sparse {
+            items: Items::new(alloc),
+        },
+        ray_unknown: ray,
+        ray_lambda: Sparse {
+            items: Items::new(alloc),
+        },
+    };
+    other
+}
+
+// Of the text of the greatest length the lines `threshold 0`, `whole 0` and `dual 0:1 1:1 2:1` go, 37 bytes, and `vacuous`, `ray unknown 0:1000` and
+// `ray lambda` come, 38 bytes.
+#[test]
+fn a_certificate_whose_text_is_too_long(rt: HostRuntime) -> Result<(), Fail> {
+    let alloc = rt.alloc();
+    let text = filled_text(alloc, " 2816:1000000000000000000")?;
+    let c = read_cert(alloc, text.as_bytes())?;
+    let Some(ray) = read_items(alloc, b" 0:1000")? else {
+        return Err(Fail::from("refused"));
+    };
+    let longer = vacuous(alloc, c, ray);
+    match write_cert(alloc, &longer) {
+        Ok(_) => Err(Fail::from("written")),
+        Err(WriteFault::TooLarge { count }) => {
+            assert_eq!(rt; count, 16777217);
+            Ok(())
+        }
+        Err(WriteFault::NoMemory) => Err(Fail::from("out of memory")),
+    }
 }
 
 // The items 0:1 and 2:-1/2, both ways.
