@@ -51,4 +51,4 @@ module _ (w : Web) where
   }
 
 pub has_lists : HasLists
-has_lists c = (λ i. (row_list c.web i).0, λ k. (column_list c.web k).0, (free_one c.web).0, held c.web)
+has_lists c = (λ i. (row_list c.held.web i).0, λ k. (column_list c.held.web k).0, (free_one c.held.web).0, held c.held.web)

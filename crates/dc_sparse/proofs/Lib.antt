@@ -11,8 +11,14 @@ pub mod Values
 pub mod LiveCounts
 pub mod RowSteps
 pub mod Grows
+pub mod RowWalks
 pub mod Quotients
+pub mod Wholes
+pub mod Scaling
+pub mod HeldEntries
+pub mod WholeSteps
 pub mod ColumnSteps
+pub mod HeldSteps
 pub mod PivotSteps
 pub mod Tables
 pub mod Places

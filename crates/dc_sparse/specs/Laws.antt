@@ -33,7 +33,7 @@ pub record IsHeld (w : Web) (rows columns : ℕ → List ℕ) (free : List ℕ) 
   pub zeros : (i k : ℕ) → IsVacant (nodes_of w) i k → entry_at (nodes_of w) i k ≡ of_ℤ (pos 0)
 
 abbrev pub HasLists : Type 0
-HasLists = (c : Cross) → (rows : ℕ → List ℕ) × (columns : ℕ → List ℕ) × (free : List ℕ) × IsHeld c.web rows columns free
+HasLists = (c : Cross) → (rows : ℕ → List ℕ) × (columns : ℕ → List ℕ) × (free : List ℕ) × IsHeld c.held.web rows columns free
 
 -- a tableau that is ready for a pivot has as many free nodes as the pivot fills places
 abbrev pub HasRoom : Type 0

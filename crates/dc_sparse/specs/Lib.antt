@@ -1,8 +1,9 @@
 pub mod Lines
 pub mod Nodes
 pub mod Webs
-pub mod Props
 pub mod Entries
+pub mod Scales
+pub mod Props
 pub mod Rows
 pub mod Pivots
 pub mod Shape

@@ -5,8 +5,11 @@ mod cross;
 mod fill;
 pub mod laws;
 mod memory;
+mod pivot;
 mod rows;
+mod scaled;
 mod web;
+mod whole;
 mod writes;
 
 pub use crate::cross::Cross;

@@ -16,7 +16,7 @@ pub returns-in_default : goal.returns-in_default
 returns-in_default c =
     let d = c.args.self.now in
     let t = (cross_meaning d).table in
-    let s : IsShaped d.columns (vec_len d.basis) (length d.web.row_heads.items) (length d.web.col_heads.items) = d.shape c.requires.usable.loaded in
+    let s : IsShaped d.columns (vec_len d.basis) (length d.held.web.row_heads.items) (length d.held.web.col_heads.items) = d.shape c.requires.usable.loaded in
     let inside : c.loop-row.row < length d.basis.items = omega (arith, d.basis.ok.0) in
     let last : d.columns + c.len.result ≡ right t = omega (arith, d.basis.ok.0, c.len.ensures) in
     best-past t c.args.col c.loop-row.row c.loop-row.best c.loop-row.invariant
@@ -30,7 +30,7 @@ loop-row-preserved c =
     let t = (cross_meaning d).table in
     elim c.if-is_positive.branch [
       | then-is_positive+in-Some w ↦
-          let s : IsShaped d.columns (vec_len d.basis) (length d.web.row_heads.items) (length d.web.col_heads.items) = d.shape c.requires.usable.loaded in
+          let s : IsShaped d.columns (vec_len d.basis) (length d.held.web.row_heads.items) (length d.held.web.col_heads.items) = d.shape c.requires.usable.loaded in
           let last : d.columns + c.len.result ≡ right t = omega (arith, d.basis.ok.0, c.len.ensures) in
           let inside : c.loop-row.row < length d.basis.items = omega (arith, d.basis.ok.0) in
           let b : IsBetter t c.args.col (record { row = c.loop-row.row; ratio = w.in-Some.ratio }) c.loop-row.best w.better.result = w.better.ensures t c.args.col w.deref.ensures.value
@@ -46,7 +46,7 @@ pub returns : goal.returns
 returns c =
     let d = c.args.self.now in
     let t = (cross_meaning d).table in
-    let s : IsShaped d.columns (vec_len d.basis) (length d.web.row_heads.items) (length d.web.col_heads.items) = d.shape c.requires.usable.loaded in
+    let s : IsShaped d.columns (vec_len d.basis) (length d.held.web.row_heads.items) (length d.held.web.col_heads.items) = d.shape c.requires.usable.loaded in
     let all : c.loop-row.row ≡ length d.basis.items = omega (arith, d.basis.ok.0, c.loop-row-test.false) in
     let e : c.map.result ≡ row_of c.loop-row.best = search rules in
     ap (λ o. Ok o) e ∙ best-all t c.args.col c.loop-row.row c.loop-row.best c.loop-row.invariant all
