@@ -17,6 +17,7 @@ pub mod Wholes
 pub mod Scaling
 pub mod HeldEntries
 pub mod WholeSteps
+pub mod TurnSteps
 pub mod ColumnSteps
 pub mod HeldSteps
 pub mod PivotSteps

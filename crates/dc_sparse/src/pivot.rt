@@ -7,6 +7,7 @@ ghost use Rattle.dc_math.specs.Tests.{is_zero};
 ghost use Rattle.dc_frac.specs.Value.{value};
 ghost use Rattle.dc_lp.specs.Meanings.{all_below};
 ghost use Rattle.dc_frac.specs.Fits.{quotient_fits};
+ghost use Rattle.dc_sparse.specs.Entries.{entry_at};
 ghost use Rattle.dc_sparse.specs.Scales.{scale_at};
 ghost use Rattle.dc_sparse.specs.Pivots.{entries_fit, ArePivoted, quotients_fit};
 ghost use Rattle.dc_sparse.specs.Rows.{steps_fit, stepped_at, rows_fit, RowsAreReduced, gaps_in_row, gaps_in_rows};
@@ -15,7 +16,7 @@ use crate::scaled::Scaled;
 use dc_frac::Frac;
 
 impl Scaled {
-    ghost use Rattle.dc_sparse.specs.Held.{node_count, height_of, width_of, held_at, KeepsHeld, KeepsOthers};
+    ghost use Rattle.dc_sparse.specs.Held.{nodes_of, node_count, height_of, width_of, held_at, KeepsHeld, KeepsOthers};
 
     /// Makes the pivot at a place with an entry. Whether it fits; where it doesn't, the rows are left half done. It takes no memory.
     pub(crate) fn pivot(&mut self, row: usize, col: usize) -> bool
@@ -78,9 +79,10 @@ impl Scaled {
         let mut next = self.web.down_of(col, None);
         while let Some(node) = next {
             let row = self.web.nodes[node].row;
+            let number = self.web.nodes[node].value;
             next = self.web.nodes[node].down;
             if row != pivot {
-                if !self.reduce(row, pivot, col) {
+                if !self.reduce(row, pivot, col, number) {
                     return false;
                 }
             }
@@ -89,12 +91,13 @@ impl Scaled {
         true
     }
 
-    /// Takes its entry in column `col` times row `pivot` from another row. Column `col` becomes 0. Whether it fits; where it doesn't,
-    /// the row is left half done. It takes no memory.
-    fn reduce(&mut self, row: usize, pivot: usize, col: usize) -> bool
+    /// Takes its entry in column `col`, which is held as `number`, times row `pivot` from another row. Column `col` becomes 0.
+    /// Whether it fits; where it doesn't, the row is left half done. It takes no memory.
+    fn reduce(&mut self, row: usize, pivot: usize, col: usize, number: Frac) -> bool
         requires row { row < height_of self.old.web }
         requires pivot { pivot < height_of self.old.web }
         requires other { pivot ≢ row }
+        requires number { value number ≡ entry_at (nodes_of self.old.web) row col }
         requires entry { is_zero (held_at self.old pivot col) ≡ false }
         requires spare { gaps_in_row (held_at self.old) row pivot (width_of self.old.web) ≤ self.old.web.spare }
         ensures fits { result ≡ steps_fit (held_at self.old) (width_of self.old.web) pivot col row }
@@ -109,7 +112,7 @@ impl Scaled {
     {
         if let Some(mine) = self.dens[row] {
             if let Some(other) = self.dens[pivot] {
-                self.reduce_whole(row, pivot, col, mine, other);
+                self.reduce_whole(row, pivot, col, number, mine, other);
                 return true;
             }
         }
@@ -117,10 +120,19 @@ impl Scaled {
     }
 
     /// The same for two rows of whole numbers, over these denominators.
-    fn reduce_whole(&mut self, row: usize, pivot: usize, col: usize, mine: Frac, other: Frac)
+    fn reduce_whole(
+        &mut self,
+        row: usize,
+        pivot: usize,
+        col: usize,
+        number: Frac,
+        mine: Frac,
+        other: Frac,
+    )
         requires row { row < height_of self.old.web }
         requires pivot { pivot < height_of self.old.web }
         requires other { pivot ≢ row }
+        requires number { value number ≡ entry_at (nodes_of self.old.web) row col }
         requires mine { scale_at self.old.dens.items row ≡ Some mine }
         requires den { scale_at self.old.dens.items pivot ≡ Some other }
         requires entry { is_zero (held_at self.old pivot col) ≡ false }
@@ -134,7 +146,7 @@ impl Scaled {
         ensures height { height_of self.new.web ≡ height_of self.old.web }
         ensures width { width_of self.new.web ≡ width_of self.old.web }
     {
-        let Some(ratio) = self.web.entry(row, col).div(other) else {
+        let Some(ratio) = number.div(other) else {
             unreachable!();
         };
         let Some(by) = mine.mul(Frac::whole(ratio.den)) else {

@@ -7,8 +7,8 @@ use Rattle.dc_sparse.proofs.Cells.{item_live}
 use Rattle.dc_sparse.proofs.Links.{row-read, down-read}
 use Rattle.dc_sparse.proofs.HeldSteps.{AreDown, rows_start, down_room, down_fails, down_more, down_pivot, down_end}
 use Rattle.dc_sparse.proofs.HeldEntries.{held-zero}
-use Rattle.dc_sparse.proofs.pivot.Scaled.reduce_rows.Goals as goal
-use Rattle.dc_sparse.proofs.pivot.Scaled.reduce_rows.Goals.{then-row-pivot+else-not-reduce, else-row-pivot}
+use Rattle.dc_sparse.proofs.scaled.Scaled.reduce_rows.Goals as goal
+use Rattle.dc_sparse.proofs.scaled.Scaled.reduce_rows.Goals.{then-row-pivot+else-not-reduce, else-row-pivot}
 
 pub loop-next-init : goal.loop-next-init
 loop-next-init c = record {

@@ -1,7 +1,7 @@
 use Rattle.std.proofs.Common.{◌≡◌, ◌≤◌, ◌-◌, length}
 use Rattle.dc_sparse.specs.Held.{held_at}
 use Rattle.dc_sparse.proofs.HeldSteps.{AreDown}
-use Rattle.dc_sparse.proofs.pivot.Scaled.reduce_rows.Given as goal
+use Rattle.dc_sparse.proofs.scaled.Scaled.reduce_rows.Given as goal
 
 abbrev pub invariant-loop-next : goal.invariant-loop-next
 invariant-loop-next l = record {
