@@ -7,6 +7,7 @@ use Rattle.dc_frac.specs.Fits.{fits, quotient_fits}
 use Rattle.dc_lp.specs.Meanings.{all_below}
 use Rattle.dc_lp.proofs.Belows.{all_below-same}
 use Rattle.dc_start.specs.Changes.{step_fits}
+use Rattle.dc_sparse.specs.declared.web.Node.{Node}
 use Rattle.dc_sparse.specs.declared.scaled.Scaled.{Scaled}
 use Rattle.dc_sparse.specs.Entries.{entry_at, KeepsPlaces}
 use Rattle.dc_sparse.specs.Rows.{reductions_fit, row_gaps, entry_after, steps_fit, stepped_at, gaps_in_row, divisions_fit, KeepsRows}
@@ -48,10 +49,10 @@ others_kept s t i e rows places sizes = record {
 
 -- ---- two rows, where those are 0 that were
 
-pub gaps-same : (s t : Scaled) (row pivot w : ℕ) → ((k : ℕ) → is_zero (entry_at t.web.nodes.items row k) ≡ is_zero (held_at s row k)) → ((k : ℕ) → is_zero (entry_at t.web.nodes.items pivot k) ≡ is_zero (held_at s pivot k))
-    → row_gaps t.web.nodes.items row pivot w ≡ gaps_in_row (held_at s) row pivot w
+pub gaps-same : (s : Scaled) (xs : List Node) (row pivot w : ℕ) → ((k : ℕ) → is_zero (entry_at xs row k) ≡ is_zero (held_at s row k)) → ((k : ℕ) → is_zero (entry_at xs pivot k) ≡ is_zero (held_at s pivot k))
+    → row_gaps xs row pivot w ≡ gaps_in_row (held_at s) row pivot w
 unfolding row_gaps
-gaps-same s t row pivot w h k = count_below-same _ _ w (λ j lj. rw (h j, k j) refl)
+gaps-same s xs row pivot w h k = count_below-same _ _ w (λ j lj. rw (h j, k j) refl)
 
 -- ---- two rows of fractions
 
@@ -64,7 +65,7 @@ module _ (s t : Scaled) (row pivot col : ℕ) (same : (a b : ℕ) → held_at t 
   at_pivot k = sym (held-none t pivot k other) ∙ same pivot k
 
   pub fractions_gaps : (w : ℕ) → row_gaps t.web.nodes.items row pivot w ≡ gaps_in_row (held_at s) row pivot w
-  fractions_gaps w = gaps-same s t row pivot w (λ k. ap is_zero (at_row k)) (λ k. ap is_zero (at_pivot k))
+  fractions_gaps w = gaps-same s t.web.nodes.items row pivot w (λ k. ap is_zero (at_row k)) (λ k. ap is_zero (at_pivot k))
 
   module _ (factor : ℚ) (e : factor ≡ entry_at t.web.nodes.items row col) where
     pub fractions_fit : (w : ℕ) → reductions_fit t.web.nodes.items row pivot col factor w ≡ steps_fit (held_at s) w pivot col row

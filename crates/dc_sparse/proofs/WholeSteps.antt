@@ -12,7 +12,8 @@ use Rattle.dc_frac.specs.Value.{value, fraction}
 use Rattle.dc_frac.specs.Fits.{fits, quotient_fits, IsWithin}
 use Rattle.dc_frac.proofs.ValueLaws.{lowest-value}
 use Rattle.dc_frac.proofs.ZeroSums.{fits-zero}
-use Rattle.dc_frac.proofs.SmallSizes.{lowest_num_below, lowest_den_below}
+use Rattle.dc_frac.proofs.SmallSizes.{lowest_num_below, lowest_den_below, quotients_fit}
+use Rattle.dc_frac.proofs.SmallSizes.{ratio_within as frac_within}
 use Rattle.dc_lp.proofs.Belows.{or_true, all_below-same}
 use Rattle.dc_start.specs.Changes.{step_fits}
 use Rattle.dc_sparse.specs.declared.web.Node.{Node}
@@ -24,7 +25,7 @@ use Rattle.dc_sparse.specs.Scales.{IsWhole, IsDen, scale_at}
 use Rattle.dc_sparse.specs.Held.{held_at}
 use Rattle.dc_sparse.proofs.PlaceCounts.{all_below-on}
 use Rattle.dc_sparse.proofs.Quotients.{zero_by}
-use Rattle.dc_sparse.proofs.Wholes.{nonzero, zero_test, is_zero-zero, is_zero-/ℚ, whole_of, whole-*ℚ, whole_steps, over_within, steps_within, stepped_fits, den_nonzero}
+use Rattle.dc_sparse.proofs.Wholes.{whole_small, nonzero, zero_test, is_zero-zero, is_zero-/ℚ, whole_of, whole-*ℚ, whole_steps, over_within, steps_within, stepped_fits, den_nonzero}
 use Rattle.dc_sparse.proofs.Scaling.{beyond}
 use Rattle.dc_sparse.proofs.HeldEntries.{held-some, held-within, whole_row}
 
@@ -57,6 +58,13 @@ module _ (ratio : Frac) (within : IsWithin 41 (value ratio)) where
   pub den_whole : IsWhole 41 (of_ℤ ratio.den)
   den_whole = whole_of 41 ratio.den (subst (λ (p : Fraction). unsigned_abs p.den < 2 ^ 41) (lowest-value ratio) (lowest_den_below 41 (value ratio) within))
 
+-- a small whole number times the denominator
+pub scaling_fits : (ratio : Frac) → IsWithin 41 (value ratio) → is_zero (of_ℤ ratio.den) ≡ false → (x : ℚ) → IsWhole 41 x → quotient_fits x (of_ℤ (pos 1) /ℚ of_ℤ ratio.den) ≡ true
+scaling_fits ratio within nz x h =
+    quotients_fit 41 41 x (of_ℤ (pos 1) /ℚ of_ℤ ratio.den) (nonzero (of_ℤ (pos 1) /ℚ of_ℤ ratio.den) (is_zero-/ℚ (of_ℤ (pos 1)) (of_ℤ ratio.den) nz ∙ zero_test (of_ℤ (pos 1)) one_nonzero))
+    (whole_small 41 x (omega arith) h)
+    (frac_within 41 (pos 1) ratio.den ratio.positive (omega arith) (subst (λ (p : Fraction). unsigned_abs p.den < 2 ^ 41) (lowest-value ratio) (lowest_den_below 41 (value ratio) within))) (omega arith)
+
 pub num_is : (ratio : Frac) → value ratio *ℚ of_ℤ ratio.den ≡ of_ℤ ratio.num
 unfolding value
 num_is ratio = ratio-*ℚ-den (fraction ratio)
@@ -68,7 +76,7 @@ module _ (s : Scaled) (row pivot col : ℕ) (mine other : Frac) (em : scale_at s
     (ratio by : Frac) (er : value ratio ≡ entry_at s.web.nodes.items row col /ℚ value other) (nz : is_zero (of_ℤ ratio.den) ≡ false) (eb : value by ≡ value mine *ℚ of_ℤ ratio.den)
     (mid : Web) (erow : (k : ℕ) → entry_at mid.nodes.items row k ≡ entry_at s.web.nodes.items row k /ℚ (of_ℤ (pos 1) /ℚ of_ℤ ratio.den))
     (epivot : (k : ℕ) → entry_at mid.nodes.items pivot k ≡ entry_at s.web.nodes.items pivot k) where
-  ratio_within : IsWithin 41 (value ratio)
+  pub ratio_within : IsWithin 41 (value ratio)
   ratio_within = subst (IsWithin 41) (sym er) (over_within (entry_at s.web.nodes.items row col) (value other) ((whole_row s row mine em).1 col) (whole_row s pivot other eo).0)
 
   times_row : (k : ℕ) → entry_at mid.nodes.items row k ≡ entry_at s.web.nodes.items row k *ℚ of_ℤ ratio.den
