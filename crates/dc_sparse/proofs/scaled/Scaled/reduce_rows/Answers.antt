@@ -3,7 +3,9 @@ use Rattle.dc_math.specs.Tests.{is_zero}
 use Rattle.dc_sparse.specs.Nodes.{row_at, down_at, head_at}
 use Rattle.dc_sparse.specs.Rows.{steps_fit, stepped_at, gaps_in_row}
 use Rattle.dc_sparse.specs.Held.{held_at, KeepsHeld}
-use Rattle.dc_sparse.proofs.Cells.{item_live}
+use Rattle.dc_sparse.specs.Entries.{entry_at}
+use Rattle.dc_sparse.proofs.Entries.{entry-node}
+use Rattle.dc_sparse.proofs.Cells.{item_live, item-read}
 use Rattle.dc_sparse.proofs.Links.{row-read, down-read}
 use Rattle.dc_sparse.proofs.HeldSteps.{AreDown, rows_start, down_room, down_fails, down_more, down_pivot, down_end}
 use Rattle.dc_sparse.proofs.HeldEntries.{held-zero}
@@ -45,6 +47,19 @@ index-requires-in-Some c =
     let in_table = (w.woven.within n a.next.0.live).0 in
     omega (arith, w.nodes.ok.0)
 
+pub index-requires-in-Some-2 : goal.index-requires-in-Some-2
+index-requires-in-Some-2 c =
+    let s = c.args.self.now in
+    let t = c.loop-next.self in
+    let w = t.web in
+    let n = c.in-Some.node in
+    let wide = c.loop-next.invariant.width in
+    let tall = c.loop-next.invariant.height in
+    let a : AreDown (held_at s) (held_at t) w.nodes.items (length s.web.col_heads.items) c.args.pivot c.args.col s.web.spare w.spare c.loop-next.done (Some n) = rw c.in-Some.is at c.loop-next.invariant.down in
+    let inside = item_live w.nodes.items n a.next.0.live in
+    let in_table = (w.woven.within n a.next.0.live).0 in
+    omega (arith, w.nodes.ok.0)
+
 pub reduce-requires-clause-row : goal.reduce-requires-clause-row
 reduce-requires-clause-row c =
     let s = c.args.self.now in
@@ -58,6 +73,22 @@ reduce-requires-clause-row c =
     let in_table = (w.woven.within n a.next.0.live).0 in
     let e : c.index.result.now.row ≡ row_at w.nodes.items n = row-read w.nodes.items n c.index.result.now inside c.index.ensures in
     omega arith
+
+pub reduce-requires-clause-number : goal.reduce-requires-clause-number
+reduce-requires-clause-number c =
+    let s = c.args.self.now in
+    let t = c.loop-next.self in
+    let w = t.web in
+    let n = c.in-Some.node in
+    let wide = c.loop-next.invariant.width in
+    let tall = c.loop-next.invariant.height in
+    let a : AreDown (held_at s) (held_at t) w.nodes.items (length s.web.col_heads.items) c.args.pivot c.args.col s.web.spare w.spare c.loop-next.done (Some n) = rw c.in-Some.is at c.loop-next.invariant.down in
+    let inside = item_live w.nodes.items n a.next.0.live in
+    let in_table = (w.woven.within n a.next.0.live).0 in
+    let e : c.index.result.now.row ≡ row_at w.nodes.items n = row-read w.nodes.items n c.index.result.now inside c.index.ensures in
+    item-read w.nodes.items n c.index-in-Some.result.now inside c.index-in-Some.ensures
+    ∙ sym (entry-node w.nodes.items n (row_at w.nodes.items n) c.args.col inside w.woven.apart (record { live = a.next.0.live; row = refl; col = a.next.0.line }))
+    ∙ ap (λ i. entry_at w.nodes.items i c.args.col) (sym e)
 
 pub reduce-requires-clause-other : goal.reduce-requires-clause-other
 reduce-requires-clause-other c = λ z. c.if-row-pivot.true (sym z)
@@ -150,7 +181,7 @@ loop-next-preserved c =
     let inside = item_live w.nodes.items n a.next.0.live in
     let in_table = (w.woven.within n a.next.0.live).0 in
     let e : c.index.result.now.row ≡ row_at w.nodes.items n = row-read w.nodes.items n c.index.result.now inside c.index.ensures in
-    let ed : c.index-in-Some.result.now.down ≡ down_at w.nodes.items n = down-read w.nodes.items n c.index-in-Some.result.now inside c.index-in-Some.ensures in
+    let ed : c.index-in-Some-2.result.now.down ≡ down_at w.nodes.items n = down-read w.nodes.items n c.index-in-Some-2.result.now inside c.index-in-Some-2.ensures in
     elim c.if-row-pivot.branch [
       | then-row-pivot+else-not-reduce v ↦
           let newer = v.reduce.new.self in
