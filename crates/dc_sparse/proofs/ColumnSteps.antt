@@ -1,19 +1,19 @@
 -- The gaps of the rows that have an entry in a column are counted.
-use Rattle.std.proofs.Common.{◌≡◌, ◌≢◌, ℕ, suc, ◌+◌, ◌<◌, ◌≤◌, Bool, true, false, not, ◌&&◌, ◌||◌, ◌==◌, nat_lt, pos, List, Option, Some, None, refl, sym, ◌∙◌, ap, arith, add-one, inl, inr, eq-eqb, length}
-use Rattle.std.proofs.lemmas.Bool.{cases_Bool, ne_eqb, eqb-true, eqb-false, ltb-true, ltb-false}
-use Rattle.dc_math.specs.Rational.{ℚ, of_ℤ}
+use Rattle.std.proofs.Common.{◌≡◌, ℕ, ◌+◌, ◌<◌, ◌≤◌, Bool, true, false, not, ◌&&◌, ◌||◌, ◌==◌, pos, List, Option, Some, None, refl, sym, ◌∙◌, ap, arith, add-one, inl, inr, eq-eqb, length}
+use Rattle.std.proofs.lemmas.Bool.{cases_Bool, eqb-true}
+use Rattle.dc_math.specs.Rational.{of_ℤ}
 use Rattle.dc_math.specs.Tests.{is_zero, eq_ℚ-true}
-use Rattle.dc_lp.specs.Fill.{count_below, count_places}
-use Rattle.dc_lp.proofs.Belows.{all_below-fails, all_below-same, or_true}
+use Rattle.dc_lp.specs.Fill.{count_below}
+use Rattle.dc_lp.proofs.Belows.{or_true}
 use Rattle.dc_sparse.specs.declared.web.Node.{Node}
-use Rattle.dc_sparse.specs.Lines.{AreApart, AreLinked, IsFrom, IsFirst}
-use Rattle.dc_sparse.specs.Nodes.{row_at, item, down_at, by_rows, by_columns}
+use Rattle.dc_sparse.specs.Lines.{AreApart, AreLinked, IsFirst}
+use Rattle.dc_sparse.specs.Nodes.{row_at, down_at, by_rows, by_columns}
 use Rattle.dc_sparse.specs.Webs.{IsVacant}
-use Rattle.dc_sparse.specs.Entries.{entry_at, StandsAt}
-use Rattle.dc_sparse.specs.Rows.{reductions_fit, row_gaps, KeepsRows, AreReduced, row_fits, rows_fit, reduced_at, RowsAreReduced, rows_gaps}
+use Rattle.dc_sparse.specs.Entries.{entry_at}
+use Rattle.dc_sparse.specs.Rows.{row_gaps, rows_gaps}
 use Rattle.dc_sparse.proofs.Links.{next_first}
 use Rattle.dc_sparse.proofs.Entries.{entry-node, entry-vacant, item-live}
-use Rattle.dc_sparse.proofs.PlaceCounts.{all_below-on, count_below-same, count_below-none, count_places-on, count_places-none}
+use Rattle.dc_sparse.proofs.PlaceCounts.{count_below-same, count_below-none, count_places-none}
 
 -- above the next node of a column its entries are 0
 pub gap_above : (xs : List Node) (col n : ℕ) (o : Option ℕ) → IsFirst (by_columns xs) col n o → (i : ℕ) → n ≤ i → ((m : ℕ) → o ≡ Some m → i < row_at xs m) → is_zero (entry_at xs i col) ≡ true

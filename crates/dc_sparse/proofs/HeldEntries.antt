@@ -1,5 +1,5 @@
 -- The entries of a scaled web.
-use Rattle.std.proofs.Common.{◌≡◌, ◌≢◌, ℕ, ◌<◌, ◌≤◌, true, false, ◌==◌, inl, inr, List, length, set, Option, Some, None, refl, sym, ◌∙◌, ap, subst, arith}
+use Rattle.std.proofs.Common.{◌≡◌, ◌≢◌, ℕ, ◌<◌, ◌==◌, inl, inr, length, set, Option, Some, None, refl, sym, ◌∙◌, ap, arith}
 use Rattle.std.proofs.lemmas.Bool.{cases_Bool, eqb-true, eqb-false}
 use Rattle.dc_math.specs.Rational.{ℚ}
 use Rattle.dc_math.specs.Inverse.{◌/ℚ◌}
@@ -9,10 +9,10 @@ use Rattle.dc_frac.specs.Value.{value}
 use Rattle.dc_frac.specs.Fits.{IsWithin}
 use Rattle.dc_sparse.specs.declared.web.Web.{Web}
 use Rattle.dc_sparse.specs.declared.scaled.Scaled.{Scaled}
-use Rattle.dc_sparse.specs.Entries.{entry_at, StandsAt, KeepsPlaces}
+use Rattle.dc_sparse.specs.Entries.{entry_at, KeepsPlaces}
 use Rattle.dc_sparse.specs.Rows.{KeepsRows}
 use Rattle.dc_sparse.specs.Scales.{IsWhole, IsDen, scale_at, den_of, scaled_at}
-use Rattle.dc_sparse.specs.Held.{nodes_of, height_of, held_at, KeepsSizes, KeepsOthers, TakesOver, KeepsEntries, KeepsHeld}
+use Rattle.dc_sparse.specs.Held.{height_of, held_at, KeepsSizes, KeepsOthers, TakesOver, KeepsEntries}
 use Rattle.dc_sparse.proofs.Scaling.{scaled-zero, scaled-negative, scaled-none, scaled-some, scaled-kept, row_scaled, row_within, scale-here, scale-elsewhere}
 
 module _ (s : Scaled) (i k : ℕ) where

@@ -1,13 +1,13 @@
 -- Rows that are reduced one after another, down the pivot's column.
-use Rattle.std.proofs.Common.{◌≡◌, ◌≢◌, ℕ, suc, ◌+◌, ◌<◌, ◌≤◌, Bool, true, false, not, ◌&&◌, ◌||◌, ◌==◌, nat_lt, pos, List, Option, Some, None, refl, sym, ◌∙◌, ap, arith, add-one, inl, inr, eq-eqb, length}
+use Rattle.std.proofs.Common.{◌≡◌, ◌≢◌, ℕ, suc, ◌+◌, ◌<◌, ◌≤◌, Bool, true, false, not, ◌&&◌, ◌||◌, ◌==◌, nat_lt, List, Option, Some, None, refl, sym, ◌∙◌, ap, arith, add-one, inl, inr, eq-eqb, length}
 use Rattle.std.proofs.lemmas.Bool.{cases_Bool, ne_eqb, eqb-true, eqb-false, ltb-true, ltb-false}
-use Rattle.dc_math.specs.Rational.{ℚ, of_ℤ}
+use Rattle.dc_math.specs.Rational.{ℚ}
 use Rattle.dc_math.specs.Tests.{is_zero}
 use Rattle.dc_lp.specs.Fill.{count_below, count_places}
 use Rattle.dc_lp.proofs.Belows.{all_below-fails, all_below-same, or_true}
 use Rattle.dc_sparse.specs.declared.web.Node.{Node}
 use Rattle.dc_sparse.specs.Lines.{AreApart, AreLinked, IsFrom, IsFirst}
-use Rattle.dc_sparse.specs.Nodes.{row_at, item, down_at, by_rows, by_columns}
+use Rattle.dc_sparse.specs.Nodes.{row_at, down_at, by_rows, by_columns}
 use Rattle.dc_sparse.specs.Entries.{entry_at, StandsAt}
 use Rattle.dc_sparse.specs.Rows.{steps_fit, stepped_at, row_fits, rows_fit, reduced_at, RowsAreReduced, gaps_in_row, gaps_in_rows}
 use Rattle.dc_sparse.proofs.Links.{next_first}

@@ -1,5 +1,5 @@
 -- Rows that are scaled: what is held of them, and what changes when a row is written anew.
-use Rattle.std.proofs.Common.{get_or-set_other, ◌≡◌, ◌≢◌, ℕ, zero, suc, [], ◌∷◌, ◌++◌, slice_index_or, ◌<◌, ◌≤◌, true, false, cond, ◌==◌, pos, List, length, set, Option, Some, None, refl, sym, ◌∙◌, ap, ap₂, subst, arith, inl, inr, nat_lt, eq-eqb}
+use Rattle.std.proofs.Common.{get_or-set_other, ◌≡◌, ◌≢◌, ℕ, zero, suc, [], ◌∷◌, ◌++◌, slice_index_or, ◌<◌, ◌≤◌, true, false, cond, ◌==◌, pos, List, length, set, Option, Some, None, refl, sym, ◌∙◌, ap, subst, arith, inl, inr, nat_lt, eq-eqb}
 use Rattle.std.proofs.lemmas.Bool.{cases_Bool, ne_eqb, eqb-true, eqb-false, ltb-true, ltb-false}
 use Rattle.std.proofs.Math.ListN.{length-set}
 use Rattle.std.proofs.lemmas.Grind.{get_or-set_at}
@@ -10,7 +10,6 @@ use Rattle.dc_math.specs.Tests.{is_zero, is_negative}
 use Rattle.dc_frac.specs.declared.Frac.{Frac}
 use Rattle.dc_frac.specs.Value.{value}
 use Rattle.dc_frac.specs.Fits.{quotient_fits, IsWithin}
-use Rattle.dc_lp.specs.Meanings.{all_below}
 use Rattle.dc_sparse.specs.declared.web.Node.{Node}
 use Rattle.dc_sparse.specs.declared.web.Web.{Web}
 use Rattle.dc_sparse.specs.Entries.{entry_at}
@@ -19,7 +18,7 @@ use Rattle.dc_sparse.specs.Scales.{IsWhole, IsDen, scale_at, den_of, IsScaled, A
 use Rattle.dc_sparse.proofs.Entries.{entry-vacant}
 use Rattle.dc_sparse.proofs.PlaceCounts.{all_below-on}
 use Rattle.dc_sparse.proofs.Quotients.{zero_by}
-use Rattle.dc_sparse.proofs.Wholes.{zero_test, is_zero-zero, is_zero-/ℚ, is_negative-/ℚ, by_one, den_nonzero, over_within}
+use Rattle.dc_sparse.proofs.Wholes.{zero_test, is_zero-zero, is_zero-/ℚ, is_negative-/ℚ, by_one, over_within}
 
 -- ---- denominators
 

@@ -1,12 +1,10 @@
 -- The pivot's row, and two rows of fractions, by what is held of them.
-use Rattle.std.proofs.Common.{◌≡◌, ◌≢◌, ℕ, ◌<◌, ◌≤◌, Bool, true, false, cond, not, ◌&&◌, ◌||◌, ◌==◌, pos, List, length, Option, Some, None, refl, sym, ◌∙◌, ap, ap₂, arith}
-use Rattle.dc_math.specs.Rational.{ℚ, of_ℤ, ◌-ℚ◌, ◌*ℚ◌}
+use Rattle.std.proofs.Common.{◌≡◌, ℕ, false, List, None, refl, sym, ◌∙◌, ap}
+use Rattle.dc_math.specs.Rational.{ℚ}
 use Rattle.dc_math.specs.Inverse.{◌/ℚ◌}
 use Rattle.dc_math.specs.Tests.{is_zero}
 use Rattle.dc_frac.specs.Fits.{fits, quotient_fits}
-use Rattle.dc_lp.specs.Meanings.{all_below}
 use Rattle.dc_lp.proofs.Belows.{all_below-same}
-use Rattle.dc_start.specs.Changes.{step_fits}
 use Rattle.dc_sparse.specs.declared.web.Node.{Node}
 use Rattle.dc_sparse.specs.declared.scaled.Scaled.{Scaled}
 use Rattle.dc_sparse.specs.Entries.{entry_at, KeepsPlaces}

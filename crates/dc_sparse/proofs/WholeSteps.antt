@@ -1,27 +1,24 @@
 -- A row of whole numbers from which a multiple of the pivot's row is taken: the same step of the entries.
-use Rattle.std.proofs.Common.{◌≡◌, ◌≢◌, ℕ, ◌<◌, ◌≤◌, ◌+◌, ◌^◌, Bool, true, false, cond, ◌||◌, ◌==◌, nat_lt, pos, unsigned_abs, List, [], ◌∷◌, length, Option, Some, None, refl, sym, ◌∙◌, ap, ap₂, subst, arith, inl, inr}
+use Rattle.std.proofs.Common.{◌≡◌, ℕ, ◌<◌, ◌≤◌, ◌^◌, true, false, ◌||◌, ◌==◌, nat_lt, pos, unsigned_abs, [], ◌∷◌, length, Some, refl, sym, ◌∙◌, ap, subst, arith, inl, inr}
 use Rattle.std.proofs.lemmas.Bool.{cases_Bool, ltb-true, ltb-false}
-use Rattle.dc_math.specs.Rational.{ℚ, Fraction, of_ℤ, neg_ℚ, ◌+ℚ◌, ◌-ℚ◌, ◌*ℚ◌}
+use Rattle.dc_math.specs.Rational.{ℚ, Fraction, of_ℤ, neg_ℚ, ◌-ℚ◌, ◌*ℚ◌}
 use Rattle.dc_math.specs.RationalRing.{ring, reads, read_nat, same_form, linear₂}
 use Rattle.dc_math.specs.Inverse.{inverse, *ℚ-inverse, ◌/ℚ◌}
 use Rattle.dc_math.specs.Order.{one_nonzero, ratio-*ℚ-den, *ℚ_zero}
-use Rattle.dc_math.specs.Lowest.{lowest}
 use Rattle.dc_math.specs.Tests.{is_zero}
 use Rattle.dc_frac.specs.declared.Frac.{Frac}
 use Rattle.dc_frac.specs.Value.{value, fraction}
-use Rattle.dc_frac.specs.Fits.{fits, quotient_fits, IsWithin}
+use Rattle.dc_frac.specs.Fits.{fits, product_fits, quotient_fits, IsWithin}
 use Rattle.dc_frac.proofs.ValueLaws.{lowest-value}
 use Rattle.dc_frac.proofs.ZeroSums.{fits-zero}
-use Rattle.dc_frac.proofs.SmallSizes.{lowest_num_below, lowest_den_below, quotients_fit}
-use Rattle.dc_frac.proofs.SmallSizes.{ratio_within as frac_within}
-use Rattle.dc_lp.proofs.Belows.{or_true, all_below-same}
+use Rattle.dc_frac.proofs.SmallSizes.{lowest_num_below, lowest_den_below, products_fit}
+use Rattle.dc_lp.proofs.Belows.{or_true}
 use Rattle.dc_start.specs.Changes.{step_fits}
-use Rattle.dc_sparse.specs.declared.web.Node.{Node}
 use Rattle.dc_sparse.specs.declared.web.Web.{Web}
 use Rattle.dc_sparse.specs.declared.scaled.Scaled.{Scaled}
 use Rattle.dc_sparse.specs.Entries.{entry_at}
 use Rattle.dc_sparse.specs.Rows.{reductions_fit, entry_after, steps_fit, stepped_at}
-use Rattle.dc_sparse.specs.Scales.{IsWhole, IsDen, scale_at}
+use Rattle.dc_sparse.specs.Scales.{IsWhole, scale_at}
 use Rattle.dc_sparse.specs.Held.{held_at}
 use Rattle.dc_sparse.proofs.PlaceCounts.{all_below-on}
 use Rattle.dc_sparse.proofs.Quotients.{zero_by}
@@ -59,11 +56,8 @@ module _ (ratio : Frac) (within : IsWithin 41 (value ratio)) where
   den_whole = whole_of 41 ratio.den (subst (λ (p : Fraction). unsigned_abs p.den < 2 ^ 41) (lowest-value ratio) (lowest_den_below 41 (value ratio) within))
 
 -- a small whole number times the denominator
-pub scaling_fits : (ratio : Frac) → IsWithin 41 (value ratio) → is_zero (of_ℤ ratio.den) ≡ false → (x : ℚ) → IsWhole 41 x → quotient_fits x (of_ℤ (pos 1) /ℚ of_ℤ ratio.den) ≡ true
-scaling_fits ratio within nz x h =
-    quotients_fit 41 41 x (of_ℤ (pos 1) /ℚ of_ℤ ratio.den) (nonzero (of_ℤ (pos 1) /ℚ of_ℤ ratio.den) (is_zero-/ℚ (of_ℤ (pos 1)) (of_ℤ ratio.den) nz ∙ zero_test (of_ℤ (pos 1)) one_nonzero))
-    (whole_small 41 x (omega arith) h)
-    (frac_within 41 (pos 1) ratio.den ratio.positive (omega arith) (subst (λ (p : Fraction). unsigned_abs p.den < 2 ^ 41) (lowest-value ratio) (lowest_den_below 41 (value ratio) within))) (omega arith)
+pub scaling_fits : (ratio : Frac) → IsWithin 41 (value ratio) → (x : ℚ) → IsWhole 41 x → product_fits x (of_ℤ ratio.den) ≡ true
+scaling_fits ratio within x h = products_fit 41 41 x (of_ℤ ratio.den) (whole_small 41 x (omega arith) h) (whole_small 41 (of_ℤ ratio.den) (omega arith) (den_whole ratio within)) (omega arith)
 
 pub num_is : (ratio : Frac) → value ratio *ℚ of_ℤ ratio.den ≡ of_ℤ ratio.num
 unfolding value
@@ -74,13 +68,10 @@ num_is ratio = ratio-*ℚ-den (fraction ratio)
 -- `mid` is row `row` times the quotient's denominator, and `new` is `mid` with the numerator times row `pivot` taken from it
 module _ (s : Scaled) (row pivot col : ℕ) (mine other : Frac) (em : scale_at s.dens.items row ≡ Some mine) (eo : scale_at s.dens.items pivot ≡ Some other)
     (ratio by : Frac) (er : value ratio ≡ entry_at s.web.nodes.items row col /ℚ value other) (nz : is_zero (of_ℤ ratio.den) ≡ false) (eb : value by ≡ value mine *ℚ of_ℤ ratio.den)
-    (mid : Web) (erow : (k : ℕ) → entry_at mid.nodes.items row k ≡ entry_at s.web.nodes.items row k /ℚ (of_ℤ (pos 1) /ℚ of_ℤ ratio.den))
+    (mid : Web) (times_row : (k : ℕ) → entry_at mid.nodes.items row k ≡ entry_at s.web.nodes.items row k *ℚ of_ℤ ratio.den)
     (epivot : (k : ℕ) → entry_at mid.nodes.items pivot k ≡ entry_at s.web.nodes.items pivot k) where
   pub ratio_within : IsWithin 41 (value ratio)
   ratio_within = subst (IsWithin 41) (sym er) (over_within (entry_at s.web.nodes.items row col) (value other) ((whole_row s row mine em).1 col) (whole_row s pivot other eo).0)
-
-  times_row : (k : ℕ) → entry_at mid.nodes.items row k ≡ entry_at s.web.nodes.items row k *ℚ of_ℤ ratio.den
-  times_row k = erow k ∙ over_inverse (entry_at s.web.nodes.items row k) (of_ℤ ratio.den) nz
 
   mid_whole : (k : ℕ) → IsWhole 82 (entry_at mid.nodes.items row k)
   mid_whole k = subst (IsWhole 82) (sym (times_row k)) (whole-*ℚ 41 41 (entry_at s.web.nodes.items row k) (of_ℤ ratio.den) ((whole_row s row mine em).1 k) (den_whole ratio ratio_within))

@@ -1,23 +1,23 @@
 -- Small whole numbers, what fits of them, and quotients by numbers that aren't 0.
-use Rattle.std.specs.Prelude.{◌≡◌, ◌≢◌, ℕ, ◌+◌, ◌<◌, ◌≤◌, ◌^◌, ℤ, pos, neg_ℤ, ◌*ℤ◌, ◌≤ℤ◌, ◌<ℤ◌, unsigned_abs, Bool, true, false, ◌&&◌, ◌||◌, [], ◌∷◌}
+use Rattle.std.specs.Prelude.{◌≡◌, ℕ, ◌+◌, ◌<◌, ◌≤◌, ◌^◌, ℤ, pos, neg_ℤ, ◌*ℤ◌, ◌≤ℤ◌, ◌<ℤ◌, unsigned_abs, Bool, true, false, ◌&&◌, ◌||◌, [], ◌∷◌}
 use Rattle.std.proofs.Common.{refl, sym, ◌∙◌, ap, ap₂, subst, arith, inl, inr}
 use Rattle.std.proofs.lemmas.Int.{ints}
 use Rattle.std.proofs.lemmas.Bool.{cases_Bool}
-use Rattle.dc_math.specs.Rational.{ℚ, Fraction, fraction_of, ratio, ratio_same, of_ℤ, of_ℤ_is, of_ℤ-*ℤ, neg_ℚ, ◌+ℚ◌, ◌-ℚ◌, ◌*ℚ◌, ◌<ℚ◌}
+use Rattle.dc_math.specs.Rational.{ℚ, Fraction, fraction_of, ratio_same, of_ℤ, of_ℤ_is, of_ℤ-*ℤ, neg_ℚ, ◌-ℚ◌, ◌*ℚ◌, ◌<ℚ◌}
 use Rattle.dc_math.specs.RationalRing.{ring, reads, read_nat, same_form, linear₁, linear₂}
-use Rattle.dc_math.specs.Inverse.{inverse, inverse_unique, *ℚ-inverse, ◌/ℚ◌}
+use Rattle.dc_math.specs.Inverse.{inverse, *ℚ-inverse, ◌/ℚ◌}
 use Rattle.dc_math.specs.Signs.{negated_positive}
 use Rattle.dc_math.specs.Order.{Positive, Positive_nonzero, Positive-*ℚ, inverse_positive, <ℚ_by, of_ℤ-<, of_ℤ-<_back, of_ℤ-neg_ℤ, one_nonzero}
 use Rattle.dc_math.specs.Lowest.{lowest, ratio-lowest, lowest-of_reduced}
 use Rattle.dc_math.specs.Tests.{is_zero, is_negative, eq_ℚ-true, eq_ℚ_true, eq_ℚ_false, lt_ℚ-true, lt_ℚ_true}
 use Rattle.dc_frac.specs.declared.Frac.{Frac}
-use Rattle.dc_frac.specs.Value.{fraction, value}
+use Rattle.dc_frac.specs.Value.{value}
 use Rattle.dc_frac.specs.Fits.{fits, product_fits, quotient_fits, sum_fits, difference_fits, IsWithin}
 use Rattle.dc_frac.proofs.ShortWays.{gcd_nat_one}
 use Rattle.dc_frac.proofs.Values.{same_test}
 use Rattle.dc_frac.proofs.ValueLaws.{lowest-value}
 use Rattle.dc_frac.proofs.FitLaws.{sum-fits}
-use Rattle.dc_frac.proofs.SmallSizes.{product_below, whole_within, ratio_within, within_more, quotients_fit, products_fit, steps_fit, whole_sums_fit, lowest_num_below, lowest_den_below}
+use Rattle.dc_frac.proofs.SmallSizes.{product_below, whole_within, ratio_within, quotients_fit, products_fit, steps_fit, whole_sums_fit}
 use Rattle.dc_start.specs.Changes.{step_fits}
 use Rattle.dc_sparse.specs.Scales.{IsWhole, IsDen, IsPart}
 use Rattle.dc_start.proofs.Changes.{quotient-zero}
@@ -29,7 +29,7 @@ pub nonzero : (x : ℚ) → is_zero x ≡ false → ¬ (x ≡ of_ℤ (pos 0))
 nonzero x h = eq_ℚ_false x (of_ℤ (pos 0)) h
 
 pub zero_test : (x : ℚ) → ¬ (x ≡ of_ℤ (pos 0)) → is_zero x ≡ false
-zero_test x n = elim (cases_Bool (is_zero x)) [ | inl e ↦ absurd (n (eq_ℚ_true x (of_ℤ (pos 0)) e)) | inr e ↦ e ]
+zero_test x n = elim (cases_Bool (is_zero x)) [ inl e ↦ absurd (n (eq_ℚ_true x (of_ℤ (pos 0)) e)) | inr e ↦ e ]
 
 pub is_zero-zero : is_zero (of_ℤ (pos 0)) ≡ true
 is_zero-zero = eq_ℚ-true (of_ℤ (pos 0)) (of_ℤ (pos 0)) refl
@@ -51,6 +51,13 @@ is_zero-/ℚ x d nz = elim (cases_Bool (is_zero x)) [
   | inl e ↦ ap is_zero (zero_by x d e) ∙ is_zero-zero ∙ sym e
   | inr e ↦ quotient-nonzero x d e nz ∙ sym e
 ]
+
+-- and so is a product with a number that isn't 0
+pub is_zero-*ℚ : (x m : ℚ) → is_zero m ≡ false → is_zero (x *ℚ m) ≡ is_zero x
+is_zero-*ℚ x m nz = sym (is_zero-/ℚ (x *ℚ m) m nz) ∙ ap is_zero (plain x m (inverse m) (*ℚ-inverse m (nonzero m nz)))
+  where
+    plain : (x m i : ℚ) → m *ℚ i ≡ of_ℤ (pos 1) → (x *ℚ m) *ℚ i ≡ x
+    plain x m i e = linear₁ x _ _ _ _ e (ring (x ∷ m ∷ i ∷ []) (λ ρ p q r. simp (p, q, r, read_nat ρ, reads) (same_form _ _ _ refl)))
 
 below_zero : (x k : ℚ) → x <ℚ of_ℤ (pos 0) → Positive k → (x *ℚ k) <ℚ of_ℤ (pos 0)
 below_zero x k h p = <ℚ_by (x *ℚ k) (of_ℤ (pos 0)) (neg_ℚ x *ℚ k) (Positive-*ℚ (neg_ℚ x) k (negated_positive x h) p)

@@ -48,7 +48,7 @@ impl Scaled {
         let by = self.web.entry(row, col);
         match self.dens[row] {
             Some(_) => {
-                self.settle(row, by);
+                self.lower(row, by);
                 true
             }
             None => {
@@ -153,7 +153,7 @@ impl Scaled {
             unreachable!();
         };
         self.dens[row] = None;
-        let _scaled = self.web.divide_row(row, Frac::new(1, ratio.den));
+        self.web.multiply_row(row, ratio.den);
         let _reduced = self.web.reduce_row(row, pivot, col, Frac::whole(ratio.num));
         self.settle(row, by);
     }

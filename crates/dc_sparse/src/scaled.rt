@@ -158,6 +158,34 @@ impl Scaled {
         self.dens[row] = None;
     }
 
+    /// Makes a row its numbers over `by` as they are, where they and `by` are small whole numbers. Whether they are; else nothing
+    /// changes. It takes no memory.
+    pub(crate) fn keep(&mut self, row: usize, by: Frac) -> bool
+        requires row { row < height_of self.old.web }
+        ensures taken { IsTrue result → TakesOver self.old self.new row (value by) }
+        ensures refused { IsFalse result → self.new ≡ self.old }
+    {
+        if !is_den(&by) || !self.web.is_whole(row) {
+            return false;
+        }
+        self.dens[row] = Some(by);
+        true
+    }
+
+    /// Makes a row its numbers over `by`, all without their common divisor: as whole numbers where these are small, and else as
+    /// fractions. It takes no memory.
+    pub(crate) fn lower(&mut self, row: usize, by: Frac)
+        requires row { row < height_of self.old.web }
+        requires by { is_zero (value by) ≡ false }
+        requires fit { (k : ℕ) → quotient_fits (entry_at (nodes_of self.old.web) row k) (value by) ≡ true }
+        ensures { TakesOver self.old self.new row (value by) }
+    {
+        let share = self.web.content(row, by);
+        if !self.take(row, by, share) {
+            self.split(row, by);
+        }
+    }
+
     /// Makes a row its numbers over `by`, as whole numbers where these are small, if need be without their common divisor. It takes
     /// no memory.
     pub(crate) fn settle(&mut self, row: usize, by: Frac)
@@ -166,12 +194,8 @@ impl Scaled {
         requires fit { (k : ℕ) → quotient_fits (entry_at (nodes_of self.old.web) row k) (value by) ≡ true }
         ensures { TakesOver self.old self.new row (value by) }
     {
-        if self.take(row, by, Frac::whole(1)) {
-            return;
-        }
-        let share = self.web.content(row, by);
-        if !self.take(row, by, share) {
-            self.split(row, by);
+        if !self.keep(row, by) {
+            self.lower(row, by);
         }
     }
 

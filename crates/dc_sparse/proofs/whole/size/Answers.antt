@@ -1,4 +1,4 @@
-use Rattle.std.proofs.Common.{rules, ◌≡◌, pos, ◌≤ℤ◌, SFits, arith}
+use Rattle.std.proofs.Common.{rules, pos, ◌≤ℤ◌, SFits, arith}
 use Rattle.std.proofs.lemmas.Int.{ints, to_z-of_z}
 use mir.Syntax.{w128}
 use Rattle.dc_frac.proofs.Values.{positive_num}

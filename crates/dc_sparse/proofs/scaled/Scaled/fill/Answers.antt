@@ -1,8 +1,5 @@
-use Rattle.std.proofs.Common.{◌≡◌, ◌+◌, ◌<◌, ◌∙◌, ℕ, arith, sym, ap}
+use Rattle.std.proofs.Common.{◌∙◌, arith, sym, ap}
 use Rattle.dc_math.specs.Tests.{is_zero}
-use Rattle.dc_start.specs.Starts.{width}
-use Rattle.dc_sparse.specs.Fills.{IsStarted}
-use Rattle.dc_sparse.specs.Held.{held_at}
 use Rattle.dc_sparse.proofs.HeldEntries.{held-none, held-zero}
 use Rattle.dc_sparse.proofs.scaled.Scaled.fill.Goals as goal
 

@@ -1,6 +1,5 @@
 use Rattle.std.proofs.Common.{◌≡◌, ◌≤◌, ◌<◌, ◌∙◌, ℕ, true, false, length, arith, sym, subst, ap}
 use Rattle.dc_math.specs.Inverse.{◌/ℚ◌}
-use Rattle.dc_math.specs.Tests.{is_zero}
 use Rattle.dc_sparse.specs.Rows.{gaps_in_rows, rows_fit, RowsAreReduced}
 use Rattle.dc_sparse.specs.Pivots.{quotients_fit}
 use Rattle.dc_sparse.specs.Held.{held_at}

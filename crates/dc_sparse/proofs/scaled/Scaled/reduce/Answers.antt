@@ -1,4 +1,4 @@
-use Rattle.std.proofs.Common.{◌≡◌, ◌<◌, ◌∙◌, length, arith}
+use Rattle.std.proofs.Common.{◌<◌, ◌∙◌, length, arith}
 use Rattle.dc_sparse.proofs.Scaling.{scale-read}
 use Rattle.dc_sparse.proofs.scaled.Scaled.reduce.Goals as goal
 

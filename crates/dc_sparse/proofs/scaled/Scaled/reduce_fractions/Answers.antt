@@ -1,4 +1,4 @@
-use Rattle.std.proofs.Common.{◌≡◌, ◌≢◌, ◌≤◌, ◌<◌, ◌+◌, ◌∙◌, ℕ, true, false, None, IsTrue, length, arith, sym, subst, ap, refl}
+use Rattle.std.proofs.Common.{◌≡◌, ◌≤◌, ◌+◌, ◌∙◌, ℕ, None, length, arith, sym, subst, ap, refl}
 use Rattle.dc_math.specs.Tests.{is_zero}
 use Rattle.dc_frac.specs.Value.{value}
 use Rattle.dc_sparse.specs.Rows.{reductions_fit, row_gaps, steps_fit}

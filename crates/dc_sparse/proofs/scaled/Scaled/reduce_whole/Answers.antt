@@ -1,7 +1,7 @@
-use Rattle.std.proofs.Common.{rules, ◌≡◌, ◌≢◌, ◌≤◌, ◌<◌, ◌+◌, ◌∙◌, ℕ, true, false, pos, Some, None, IsTrue, SFits, length, set, arith, sym, subst, ap, refl}
-use Rattle.std.proofs.lemmas.Int.{ints, to_z-of_z}
+use Rattle.std.proofs.Common.{rules, ◌≡◌, ◌<◌, ◌∙◌, ℕ, true, false, None, IsTrue, SFits, length, set, arith, sym, subst, ap}
+use Rattle.std.proofs.lemmas.Int.{to_z-of_z}
 use mir.Syntax.{w128}
-use Rattle.dc_math.specs.Rational.{ℚ, of_ℤ, ◌*ℚ◌}
+use Rattle.dc_math.specs.Rational.{of_ℤ, ◌*ℚ◌}
 use Rattle.dc_math.specs.Inverse.{◌/ℚ◌}
 use Rattle.dc_math.specs.Tests.{is_zero}
 use Rattle.dc_frac.specs.Value.{value}
@@ -10,8 +10,8 @@ use Rattle.dc_frac.proofs.SmallSizes.{products_fit}
 use Rattle.dc_sparse.specs.Entries.{entry_at}
 use Rattle.dc_sparse.specs.Rows.{reductions_fit, entry_after, row_gaps, gaps_in_row}
 use Rattle.dc_sparse.specs.Held.{held_at}
-use Rattle.dc_sparse.proofs.Scaling.{scaled-set, taller, divisions_true, divided-all, scale-elsewhere}
-use Rattle.dc_sparse.proofs.Wholes.{whole_nonzero, whole_small, den_nonzero, over_fits, over_within, is_zero-/ℚ}
+use Rattle.dc_sparse.proofs.Scaling.{scaled-set, taller, scale-elsewhere}
+use Rattle.dc_sparse.proofs.Wholes.{whole_nonzero, whole_small, den_nonzero, over_fits, over_within, is_zero-*ℚ}
 use Rattle.dc_sparse.proofs.HeldEntries.{held-zero, held-kept, whole_row}
 use Rattle.dc_sparse.proofs.TurnSteps.{gaps-same}
 use Rattle.dc_sparse.proofs.WholeSteps.{den_whole, scaling_fits, whole_reductions, held_steps, by_fine, whole_step, whole_quotients}
@@ -43,8 +43,8 @@ unreachable-requires-in_default-mul c =
     let f : product_fits (value c.args.mine) (value c.whole.result) ≡ false = c.in_default-mul.ensures in
     cc
 
-pub divide_row-scaled-requires-clause-nonzero : goal.divide_row-scaled-requires-clause-nonzero
-divide_row-scaled-requires-clause-nonzero c =
+pub multiply_row-requires-clause-fit : goal.multiply_row-requires-clause-fit
+multiply_row-requires-clause-fit c k =
     let s = c.args.self.now in
     let ratio = c.in-Some.ratio in
     let w₁ = whole_row s c.args.row c.args.mine c.requires.mine in
@@ -54,11 +54,7 @@ divide_row-scaled-requires-clause-nonzero c =
     let within : IsWithin 41 (value ratio) = subst (IsWithin 41) (sym er) (over_within (entry_at s.web.nodes.items c.args.row c.args.col) (value c.args.other) (w₁.1 c.args.col) w₂.0) in
     let f₂ : SFits w128 ratio.den = search rules in
     let ew : value c.whole.result ≡ of_ℤ ratio.den = (simp to_z-of_z at c.whole.ensures) in
-    let by = c.in-Some-mul.by in
-    let eb : value by ≡ value c.args.mine *ℚ of_ℤ ratio.den = c.in-Some-mul.ensures.1 ∙ ap (λ x. value c.args.mine *ℚ x) ew in
-    let en : value c.new.result ≡ of_ℤ (pos 1) /ℚ of_ℤ ratio.den = (simp to_z-of_z at c.new.ensures) in
-    let new_nz : is_zero (value c.new.result) ≡ false = ap is_zero en ∙ is_zero-/ℚ (of_ℤ (pos 1)) (of_ℤ ratio.den) nz ∙ whole_nonzero (pos 1) (omega (arith, ints)) in
-    new_nz
+    simp to_z-of_z (scaling_fits ratio within (entry_at s.web.nodes.items c.args.row k) (w₁.1 k))
 
 pub reduce_row-reduced-requires-clause-entry : goal.reduce_row-reduced-requires-clause-entry
 reduce_row-reduced-requires-clause-entry c =
@@ -73,20 +69,15 @@ reduce_row-reduced-requires-clause-entry c =
     let ew : value c.whole.result ≡ of_ℤ ratio.den = (simp to_z-of_z at c.whole.ensures) in
     let by = c.in-Some-mul.by in
     let eb : value by ≡ value c.args.mine *ℚ of_ℤ ratio.den = c.in-Some-mul.ensures.1 ∙ ap (λ x. value c.args.mine *ℚ x) ew in
-    let en : value c.new.result ≡ of_ℤ (pos 1) /ℚ of_ℤ ratio.den = (simp to_z-of_z at c.new.ensures) in
-    let new_nz : is_zero (value c.new.result) ≡ false = ap is_zero en ∙ is_zero-/ℚ (of_ℤ (pos 1)) (of_ℤ ratio.den) nz ∙ whole_nonzero (pos 1) (omega (arith, ints)) in
-    let mid = c.divide_row-scaled.new.self in
-    let d = c.divide_row-scaled.ensures in
-    let wide : length mid.col_heads.items ≡ length s.web.col_heads.items = d.width in
-    let yes : IsTrue c.divide_row-scaled.result = d.fits ∙ divisions_true s.web.nodes.items c.args.row (value c.new.result) (length s.web.col_heads.items)
-        (λ k. ap (quotient_fits (entry_at s.web.nodes.items c.args.row k)) en ∙ scaling_fits ratio within nz (entry_at s.web.nodes.items c.args.row k) (w₁.1 k)) in
-    let divided : (k : ℕ) → entry_at mid.nodes.items c.args.row k ≡ entry_at s.web.nodes.items c.args.row k /ℚ value c.new.result = divided-all s.web mid c.args.row (value c.new.result) wide (d.divided yes) in
-    let erow : (k : ℕ) → entry_at mid.nodes.items c.args.row k ≡ entry_at s.web.nodes.items c.args.row k /ℚ (of_ℤ (pos 1) /ℚ of_ℤ ratio.den) = λ k. divided k ∙ ap (λ x. entry_at s.web.nodes.items c.args.row k /ℚ x) en in
+    let mid = c.multiply_row.new.self in
+    let d = c.multiply_row.ensures in
+    let wide : length mid.col_heads.items ≡ length s.web.col_heads.items = d.sizes.width in
+    let erow : (k : ℕ) → entry_at mid.nodes.items c.args.row k ≡ entry_at s.web.nodes.items c.args.row k *ℚ of_ℤ ratio.den = (simp to_z-of_z at d.multiplied) in
     let epivot : (k : ℕ) → entry_at mid.nodes.items c.args.pivot k ≡ entry_at s.web.nodes.items c.args.pivot k = λ k. d.others.entries c.args.pivot k c.requires.other in
     let gaps : row_gaps mid.nodes.items c.args.row c.args.pivot (length mid.col_heads.items) ≡ gaps_in_row (held_at s) c.args.row c.args.pivot (length s.web.col_heads.items) =
     ap (row_gaps mid.nodes.items c.args.row c.args.pivot) wide
     ∙ gaps-same s mid.nodes.items c.args.row c.args.pivot (length s.web.col_heads.items)
-    (λ k. ap is_zero (divided k) ∙ is_zero-/ℚ (entry_at s.web.nodes.items c.args.row k) (value c.new.result) new_nz ∙ sym (held-zero s c.args.row k))
+    (λ k. ap is_zero (erow k) ∙ is_zero-*ℚ (entry_at s.web.nodes.items c.args.row k) (of_ℤ ratio.den) nz ∙ sym (held-zero s c.args.row k))
     (λ k. ap is_zero (epivot k) ∙ sym (held-zero s c.args.pivot k)) in
     ap is_zero (epivot c.args.col) ∙ sym (held-zero s c.args.pivot c.args.col) ∙ c.requires.entry
 
@@ -103,23 +94,18 @@ reduce_row-reduced-requires-clause-spare c =
     let ew : value c.whole.result ≡ of_ℤ ratio.den = (simp to_z-of_z at c.whole.ensures) in
     let by = c.in-Some-mul.by in
     let eb : value by ≡ value c.args.mine *ℚ of_ℤ ratio.den = c.in-Some-mul.ensures.1 ∙ ap (λ x. value c.args.mine *ℚ x) ew in
-    let en : value c.new.result ≡ of_ℤ (pos 1) /ℚ of_ℤ ratio.den = (simp to_z-of_z at c.new.ensures) in
-    let new_nz : is_zero (value c.new.result) ≡ false = ap is_zero en ∙ is_zero-/ℚ (of_ℤ (pos 1)) (of_ℤ ratio.den) nz ∙ whole_nonzero (pos 1) (omega (arith, ints)) in
-    let mid = c.divide_row-scaled.new.self in
-    let d = c.divide_row-scaled.ensures in
-    let wide : length mid.col_heads.items ≡ length s.web.col_heads.items = d.width in
-    let yes : IsTrue c.divide_row-scaled.result = d.fits ∙ divisions_true s.web.nodes.items c.args.row (value c.new.result) (length s.web.col_heads.items)
-        (λ k. ap (quotient_fits (entry_at s.web.nodes.items c.args.row k)) en ∙ scaling_fits ratio within nz (entry_at s.web.nodes.items c.args.row k) (w₁.1 k)) in
-    let divided : (k : ℕ) → entry_at mid.nodes.items c.args.row k ≡ entry_at s.web.nodes.items c.args.row k /ℚ value c.new.result = divided-all s.web mid c.args.row (value c.new.result) wide (d.divided yes) in
-    let erow : (k : ℕ) → entry_at mid.nodes.items c.args.row k ≡ entry_at s.web.nodes.items c.args.row k /ℚ (of_ℤ (pos 1) /ℚ of_ℤ ratio.den) = λ k. divided k ∙ ap (λ x. entry_at s.web.nodes.items c.args.row k /ℚ x) en in
+    let mid = c.multiply_row.new.self in
+    let d = c.multiply_row.ensures in
+    let wide : length mid.col_heads.items ≡ length s.web.col_heads.items = d.sizes.width in
+    let erow : (k : ℕ) → entry_at mid.nodes.items c.args.row k ≡ entry_at s.web.nodes.items c.args.row k *ℚ of_ℤ ratio.den = (simp to_z-of_z at d.multiplied) in
     let epivot : (k : ℕ) → entry_at mid.nodes.items c.args.pivot k ≡ entry_at s.web.nodes.items c.args.pivot k = λ k. d.others.entries c.args.pivot k c.requires.other in
     let gaps : row_gaps mid.nodes.items c.args.row c.args.pivot (length mid.col_heads.items) ≡ gaps_in_row (held_at s) c.args.row c.args.pivot (length s.web.col_heads.items) =
     ap (row_gaps mid.nodes.items c.args.row c.args.pivot) wide
     ∙ gaps-same s mid.nodes.items c.args.row c.args.pivot (length s.web.col_heads.items)
-    (λ k. ap is_zero (divided k) ∙ is_zero-/ℚ (entry_at s.web.nodes.items c.args.row k) (value c.new.result) new_nz ∙ sym (held-zero s c.args.row k))
+    (λ k. ap is_zero (erow k) ∙ is_zero-*ℚ (entry_at s.web.nodes.items c.args.row k) (of_ℤ ratio.den) nz ∙ sym (held-zero s c.args.row k))
     (λ k. ap is_zero (epivot k) ∙ sym (held-zero s c.args.pivot k)) in
     let q = c.requires.spare in
-    let e = d.spare in
+    let e = d.sizes.spare in
     omega arith
 
 pub invariant_of-self : goal.invariant_of-self
@@ -127,10 +113,10 @@ invariant_of-self c =
     let s = c.args.self.now in
     let last = c.reduce_row-reduced.new.self in
     let lt : c.args.row < length s.dens.items = (let l = s.scaled.long in omega arith) in
-    let d = c.divide_row-scaled.ensures in
+    let d = c.multiply_row.ensures in
     let r = c.reduce_row-reduced.ensures in
     record {
-      scaled = taller last.nodes.items (set s.dens.items c.args.row None) (length s.web.row_heads.items) (length last.row_heads.items) (r.height ∙ d.height)
+      scaled = taller last.nodes.items (set s.dens.items c.args.row None) (length s.web.row_heads.items) (length last.row_heads.items) (r.height ∙ d.sizes.height)
           (scaled-set s.web.nodes.items s.dens.items (length s.web.row_heads.items) s.scaled last.nodes.items c.args.row None lt (λ a b ne. r.others.entries a b ne ∙ d.others.entries a b ne) tt);
     }
 
@@ -147,20 +133,15 @@ settle-requires-clause-by c =
     let ew : value c.whole.result ≡ of_ℤ ratio.den = (simp to_z-of_z at c.whole.ensures) in
     let by = c.in-Some-mul.by in
     let eb : value by ≡ value c.args.mine *ℚ of_ℤ ratio.den = c.in-Some-mul.ensures.1 ∙ ap (λ x. value c.args.mine *ℚ x) ew in
-    let en : value c.new.result ≡ of_ℤ (pos 1) /ℚ of_ℤ ratio.den = (simp to_z-of_z at c.new.ensures) in
-    let new_nz : is_zero (value c.new.result) ≡ false = ap is_zero en ∙ is_zero-/ℚ (of_ℤ (pos 1)) (of_ℤ ratio.den) nz ∙ whole_nonzero (pos 1) (omega (arith, ints)) in
-    let mid = c.divide_row-scaled.new.self in
-    let d = c.divide_row-scaled.ensures in
-    let wide : length mid.col_heads.items ≡ length s.web.col_heads.items = d.width in
-    let yes : IsTrue c.divide_row-scaled.result = d.fits ∙ divisions_true s.web.nodes.items c.args.row (value c.new.result) (length s.web.col_heads.items)
-        (λ k. ap (quotient_fits (entry_at s.web.nodes.items c.args.row k)) en ∙ scaling_fits ratio within nz (entry_at s.web.nodes.items c.args.row k) (w₁.1 k)) in
-    let divided : (k : ℕ) → entry_at mid.nodes.items c.args.row k ≡ entry_at s.web.nodes.items c.args.row k /ℚ value c.new.result = divided-all s.web mid c.args.row (value c.new.result) wide (d.divided yes) in
-    let erow : (k : ℕ) → entry_at mid.nodes.items c.args.row k ≡ entry_at s.web.nodes.items c.args.row k /ℚ (of_ℤ (pos 1) /ℚ of_ℤ ratio.den) = λ k. divided k ∙ ap (λ x. entry_at s.web.nodes.items c.args.row k /ℚ x) en in
+    let mid = c.multiply_row.new.self in
+    let d = c.multiply_row.ensures in
+    let wide : length mid.col_heads.items ≡ length s.web.col_heads.items = d.sizes.width in
+    let erow : (k : ℕ) → entry_at mid.nodes.items c.args.row k ≡ entry_at s.web.nodes.items c.args.row k *ℚ of_ℤ ratio.den = (simp to_z-of_z at d.multiplied) in
     let epivot : (k : ℕ) → entry_at mid.nodes.items c.args.pivot k ≡ entry_at s.web.nodes.items c.args.pivot k = λ k. d.others.entries c.args.pivot k c.requires.other in
     let gaps : row_gaps mid.nodes.items c.args.row c.args.pivot (length mid.col_heads.items) ≡ gaps_in_row (held_at s) c.args.row c.args.pivot (length s.web.col_heads.items) =
     ap (row_gaps mid.nodes.items c.args.row c.args.pivot) wide
     ∙ gaps-same s mid.nodes.items c.args.row c.args.pivot (length s.web.col_heads.items)
-    (λ k. ap is_zero (divided k) ∙ is_zero-/ℚ (entry_at s.web.nodes.items c.args.row k) (value c.new.result) new_nz ∙ sym (held-zero s c.args.row k))
+    (λ k. ap is_zero (erow k) ∙ is_zero-*ℚ (entry_at s.web.nodes.items c.args.row k) (of_ℤ ratio.den) nz ∙ sym (held-zero s c.args.row k))
     (λ k. ap is_zero (epivot k) ∙ sym (held-zero s c.args.pivot k)) in
     by_fine s c.args.row c.args.pivot c.args.col c.args.mine c.args.other c.requires.mine c.requires.den ratio by er nz eb mid erow epivot
 
@@ -177,20 +158,15 @@ settle-requires-clause-fit c =
     let ew : value c.whole.result ≡ of_ℤ ratio.den = (simp to_z-of_z at c.whole.ensures) in
     let by = c.in-Some-mul.by in
     let eb : value by ≡ value c.args.mine *ℚ of_ℤ ratio.den = c.in-Some-mul.ensures.1 ∙ ap (λ x. value c.args.mine *ℚ x) ew in
-    let en : value c.new.result ≡ of_ℤ (pos 1) /ℚ of_ℤ ratio.den = (simp to_z-of_z at c.new.ensures) in
-    let new_nz : is_zero (value c.new.result) ≡ false = ap is_zero en ∙ is_zero-/ℚ (of_ℤ (pos 1)) (of_ℤ ratio.den) nz ∙ whole_nonzero (pos 1) (omega (arith, ints)) in
-    let mid = c.divide_row-scaled.new.self in
-    let d = c.divide_row-scaled.ensures in
-    let wide : length mid.col_heads.items ≡ length s.web.col_heads.items = d.width in
-    let yes : IsTrue c.divide_row-scaled.result = d.fits ∙ divisions_true s.web.nodes.items c.args.row (value c.new.result) (length s.web.col_heads.items)
-        (λ k. ap (quotient_fits (entry_at s.web.nodes.items c.args.row k)) en ∙ scaling_fits ratio within nz (entry_at s.web.nodes.items c.args.row k) (w₁.1 k)) in
-    let divided : (k : ℕ) → entry_at mid.nodes.items c.args.row k ≡ entry_at s.web.nodes.items c.args.row k /ℚ value c.new.result = divided-all s.web mid c.args.row (value c.new.result) wide (d.divided yes) in
-    let erow : (k : ℕ) → entry_at mid.nodes.items c.args.row k ≡ entry_at s.web.nodes.items c.args.row k /ℚ (of_ℤ (pos 1) /ℚ of_ℤ ratio.den) = λ k. divided k ∙ ap (λ x. entry_at s.web.nodes.items c.args.row k /ℚ x) en in
+    let mid = c.multiply_row.new.self in
+    let d = c.multiply_row.ensures in
+    let wide : length mid.col_heads.items ≡ length s.web.col_heads.items = d.sizes.width in
+    let erow : (k : ℕ) → entry_at mid.nodes.items c.args.row k ≡ entry_at s.web.nodes.items c.args.row k *ℚ of_ℤ ratio.den = (simp to_z-of_z at d.multiplied) in
     let epivot : (k : ℕ) → entry_at mid.nodes.items c.args.pivot k ≡ entry_at s.web.nodes.items c.args.pivot k = λ k. d.others.entries c.args.pivot k c.requires.other in
     let gaps : row_gaps mid.nodes.items c.args.row c.args.pivot (length mid.col_heads.items) ≡ gaps_in_row (held_at s) c.args.row c.args.pivot (length s.web.col_heads.items) =
     ap (row_gaps mid.nodes.items c.args.row c.args.pivot) wide
     ∙ gaps-same s mid.nodes.items c.args.row c.args.pivot (length s.web.col_heads.items)
-    (λ k. ap is_zero (divided k) ∙ is_zero-/ℚ (entry_at s.web.nodes.items c.args.row k) (value c.new.result) new_nz ∙ sym (held-zero s c.args.row k))
+    (λ k. ap is_zero (erow k) ∙ is_zero-*ℚ (entry_at s.web.nodes.items c.args.row k) (of_ℤ ratio.den) nz ∙ sym (held-zero s c.args.row k))
     (λ k. ap is_zero (epivot k) ∙ sym (held-zero s c.args.pivot k)) in
     let last = c.reduce_row-reduced.new.self in
     let r = c.reduce_row-reduced.ensures in
@@ -215,20 +191,15 @@ returns-clause-fits c =
     let ew : value c.whole.result ≡ of_ℤ ratio.den = (simp to_z-of_z at c.whole.ensures) in
     let by = c.in-Some-mul.by in
     let eb : value by ≡ value c.args.mine *ℚ of_ℤ ratio.den = c.in-Some-mul.ensures.1 ∙ ap (λ x. value c.args.mine *ℚ x) ew in
-    let en : value c.new.result ≡ of_ℤ (pos 1) /ℚ of_ℤ ratio.den = (simp to_z-of_z at c.new.ensures) in
-    let new_nz : is_zero (value c.new.result) ≡ false = ap is_zero en ∙ is_zero-/ℚ (of_ℤ (pos 1)) (of_ℤ ratio.den) nz ∙ whole_nonzero (pos 1) (omega (arith, ints)) in
-    let mid = c.divide_row-scaled.new.self in
-    let d = c.divide_row-scaled.ensures in
-    let wide : length mid.col_heads.items ≡ length s.web.col_heads.items = d.width in
-    let yes : IsTrue c.divide_row-scaled.result = d.fits ∙ divisions_true s.web.nodes.items c.args.row (value c.new.result) (length s.web.col_heads.items)
-        (λ k. ap (quotient_fits (entry_at s.web.nodes.items c.args.row k)) en ∙ scaling_fits ratio within nz (entry_at s.web.nodes.items c.args.row k) (w₁.1 k)) in
-    let divided : (k : ℕ) → entry_at mid.nodes.items c.args.row k ≡ entry_at s.web.nodes.items c.args.row k /ℚ value c.new.result = divided-all s.web mid c.args.row (value c.new.result) wide (d.divided yes) in
-    let erow : (k : ℕ) → entry_at mid.nodes.items c.args.row k ≡ entry_at s.web.nodes.items c.args.row k /ℚ (of_ℤ (pos 1) /ℚ of_ℤ ratio.den) = λ k. divided k ∙ ap (λ x. entry_at s.web.nodes.items c.args.row k /ℚ x) en in
+    let mid = c.multiply_row.new.self in
+    let d = c.multiply_row.ensures in
+    let wide : length mid.col_heads.items ≡ length s.web.col_heads.items = d.sizes.width in
+    let erow : (k : ℕ) → entry_at mid.nodes.items c.args.row k ≡ entry_at s.web.nodes.items c.args.row k *ℚ of_ℤ ratio.den = (simp to_z-of_z at d.multiplied) in
     let epivot : (k : ℕ) → entry_at mid.nodes.items c.args.pivot k ≡ entry_at s.web.nodes.items c.args.pivot k = λ k. d.others.entries c.args.pivot k c.requires.other in
     let gaps : row_gaps mid.nodes.items c.args.row c.args.pivot (length mid.col_heads.items) ≡ gaps_in_row (held_at s) c.args.row c.args.pivot (length s.web.col_heads.items) =
     ap (row_gaps mid.nodes.items c.args.row c.args.pivot) wide
     ∙ gaps-same s mid.nodes.items c.args.row c.args.pivot (length s.web.col_heads.items)
-    (λ k. ap is_zero (divided k) ∙ is_zero-/ℚ (entry_at s.web.nodes.items c.args.row k) (value c.new.result) new_nz ∙ sym (held-zero s c.args.row k))
+    (λ k. ap is_zero (erow k) ∙ is_zero-*ℚ (entry_at s.web.nodes.items c.args.row k) (of_ℤ ratio.den) nz ∙ sym (held-zero s c.args.row k))
     (λ k. ap is_zero (epivot k) ∙ sym (held-zero s c.args.pivot k)) in
     held_steps s c.args.row c.args.pivot c.args.col c.args.mine c.args.other c.requires.mine c.requires.den ratio by er nz eb mid erow epivot (length s.web.col_heads.items)
 
@@ -245,20 +216,15 @@ returns-clause-reduced c k lk =
     let ew : value c.whole.result ≡ of_ℤ ratio.den = (simp to_z-of_z at c.whole.ensures) in
     let by = c.in-Some-mul.by in
     let eb : value by ≡ value c.args.mine *ℚ of_ℤ ratio.den = c.in-Some-mul.ensures.1 ∙ ap (λ x. value c.args.mine *ℚ x) ew in
-    let en : value c.new.result ≡ of_ℤ (pos 1) /ℚ of_ℤ ratio.den = (simp to_z-of_z at c.new.ensures) in
-    let new_nz : is_zero (value c.new.result) ≡ false = ap is_zero en ∙ is_zero-/ℚ (of_ℤ (pos 1)) (of_ℤ ratio.den) nz ∙ whole_nonzero (pos 1) (omega (arith, ints)) in
-    let mid = c.divide_row-scaled.new.self in
-    let d = c.divide_row-scaled.ensures in
-    let wide : length mid.col_heads.items ≡ length s.web.col_heads.items = d.width in
-    let yes : IsTrue c.divide_row-scaled.result = d.fits ∙ divisions_true s.web.nodes.items c.args.row (value c.new.result) (length s.web.col_heads.items)
-        (λ k. ap (quotient_fits (entry_at s.web.nodes.items c.args.row k)) en ∙ scaling_fits ratio within nz (entry_at s.web.nodes.items c.args.row k) (w₁.1 k)) in
-    let divided : (k : ℕ) → entry_at mid.nodes.items c.args.row k ≡ entry_at s.web.nodes.items c.args.row k /ℚ value c.new.result = divided-all s.web mid c.args.row (value c.new.result) wide (d.divided yes) in
-    let erow : (k : ℕ) → entry_at mid.nodes.items c.args.row k ≡ entry_at s.web.nodes.items c.args.row k /ℚ (of_ℤ (pos 1) /ℚ of_ℤ ratio.den) = λ k. divided k ∙ ap (λ x. entry_at s.web.nodes.items c.args.row k /ℚ x) en in
+    let mid = c.multiply_row.new.self in
+    let d = c.multiply_row.ensures in
+    let wide : length mid.col_heads.items ≡ length s.web.col_heads.items = d.sizes.width in
+    let erow : (k : ℕ) → entry_at mid.nodes.items c.args.row k ≡ entry_at s.web.nodes.items c.args.row k *ℚ of_ℤ ratio.den = (simp to_z-of_z at d.multiplied) in
     let epivot : (k : ℕ) → entry_at mid.nodes.items c.args.pivot k ≡ entry_at s.web.nodes.items c.args.pivot k = λ k. d.others.entries c.args.pivot k c.requires.other in
     let gaps : row_gaps mid.nodes.items c.args.row c.args.pivot (length mid.col_heads.items) ≡ gaps_in_row (held_at s) c.args.row c.args.pivot (length s.web.col_heads.items) =
     ap (row_gaps mid.nodes.items c.args.row c.args.pivot) wide
     ∙ gaps-same s mid.nodes.items c.args.row c.args.pivot (length s.web.col_heads.items)
-    (λ k. ap is_zero (divided k) ∙ is_zero-/ℚ (entry_at s.web.nodes.items c.args.row k) (value c.new.result) new_nz ∙ sym (held-zero s c.args.row k))
+    (λ k. ap is_zero (erow k) ∙ is_zero-*ℚ (entry_at s.web.nodes.items c.args.row k) (of_ℤ ratio.den) nz ∙ sym (held-zero s c.args.row k))
     (λ k. ap is_zero (epivot k) ∙ sym (held-zero s c.args.pivot k)) in
     let last = c.reduce_row-reduced.new.self in
     let r = c.reduce_row-reduced.ensures in
@@ -274,7 +240,7 @@ pub returns-clause-others : goal.returns-clause-others
 returns-clause-others c =
     let s = c.args.self.now in
     let lt : c.args.row < length s.dens.items = (let l = s.scaled.long in omega arith) in
-    let d = c.divide_row-scaled.ensures in
+    let d = c.multiply_row.ensures in
     let r = c.reduce_row-reduced.ensures in
     let e = c.settle.ensures.others in
     record {
@@ -296,20 +262,15 @@ returns-clause-spare c =
     let ew : value c.whole.result ≡ of_ℤ ratio.den = (simp to_z-of_z at c.whole.ensures) in
     let by = c.in-Some-mul.by in
     let eb : value by ≡ value c.args.mine *ℚ of_ℤ ratio.den = c.in-Some-mul.ensures.1 ∙ ap (λ x. value c.args.mine *ℚ x) ew in
-    let en : value c.new.result ≡ of_ℤ (pos 1) /ℚ of_ℤ ratio.den = (simp to_z-of_z at c.new.ensures) in
-    let new_nz : is_zero (value c.new.result) ≡ false = ap is_zero en ∙ is_zero-/ℚ (of_ℤ (pos 1)) (of_ℤ ratio.den) nz ∙ whole_nonzero (pos 1) (omega (arith, ints)) in
-    let mid = c.divide_row-scaled.new.self in
-    let d = c.divide_row-scaled.ensures in
-    let wide : length mid.col_heads.items ≡ length s.web.col_heads.items = d.width in
-    let yes : IsTrue c.divide_row-scaled.result = d.fits ∙ divisions_true s.web.nodes.items c.args.row (value c.new.result) (length s.web.col_heads.items)
-        (λ k. ap (quotient_fits (entry_at s.web.nodes.items c.args.row k)) en ∙ scaling_fits ratio within nz (entry_at s.web.nodes.items c.args.row k) (w₁.1 k)) in
-    let divided : (k : ℕ) → entry_at mid.nodes.items c.args.row k ≡ entry_at s.web.nodes.items c.args.row k /ℚ value c.new.result = divided-all s.web mid c.args.row (value c.new.result) wide (d.divided yes) in
-    let erow : (k : ℕ) → entry_at mid.nodes.items c.args.row k ≡ entry_at s.web.nodes.items c.args.row k /ℚ (of_ℤ (pos 1) /ℚ of_ℤ ratio.den) = λ k. divided k ∙ ap (λ x. entry_at s.web.nodes.items c.args.row k /ℚ x) en in
+    let mid = c.multiply_row.new.self in
+    let d = c.multiply_row.ensures in
+    let wide : length mid.col_heads.items ≡ length s.web.col_heads.items = d.sizes.width in
+    let erow : (k : ℕ) → entry_at mid.nodes.items c.args.row k ≡ entry_at s.web.nodes.items c.args.row k *ℚ of_ℤ ratio.den = (simp to_z-of_z at d.multiplied) in
     let epivot : (k : ℕ) → entry_at mid.nodes.items c.args.pivot k ≡ entry_at s.web.nodes.items c.args.pivot k = λ k. d.others.entries c.args.pivot k c.requires.other in
     let gaps : row_gaps mid.nodes.items c.args.row c.args.pivot (length mid.col_heads.items) ≡ gaps_in_row (held_at s) c.args.row c.args.pivot (length s.web.col_heads.items) =
     ap (row_gaps mid.nodes.items c.args.row c.args.pivot) wide
     ∙ gaps-same s mid.nodes.items c.args.row c.args.pivot (length s.web.col_heads.items)
-    (λ k. ap is_zero (divided k) ∙ is_zero-/ℚ (entry_at s.web.nodes.items c.args.row k) (value c.new.result) new_nz ∙ sym (held-zero s c.args.row k))
+    (λ k. ap is_zero (erow k) ∙ is_zero-*ℚ (entry_at s.web.nodes.items c.args.row k) (of_ℤ ratio.den) nz ∙ sym (held-zero s c.args.row k))
     (λ k. ap is_zero (epivot k) ∙ sym (held-zero s c.args.pivot k)) in
     let last = c.reduce_row-reduced.new.self in
     let r = c.reduce_row-reduced.ensures in
@@ -320,7 +281,6 @@ returns-clause-spare c =
     let reduced : (k : ℕ) → k < length s.web.col_heads.items → entry_at last.nodes.items c.args.row k ≡ entry_after mid.nodes.items c.args.row c.args.pivot c.args.col (of_ℤ ratio.num) k =
     λ k lk. r.reduced good k (omega arith) ∙ ap (λ x. entry_after mid.nodes.items c.args.row c.args.pivot c.args.col x k) ef in
     let q₁ = r.spare good in
-    let q₂ = d.spare in
+    let q₂ = d.sizes.spare in
     let q₃ = c.settle.ensures.others.sizes.spare in
     omega arith
-

@@ -1,4 +1,4 @@
-use Rattle.std.proofs.Common.{◌≡◌, ◌<◌, ◌∙◌, true, None, IsTrue, length, arith, set, refl}
+use Rattle.std.proofs.Common.{◌<◌, ◌∙◌, None, IsTrue, length, arith, set, refl}
 use Rattle.dc_frac.specs.Value.{value}
 use Rattle.dc_sparse.specs.Entries.{entry_at}
 use Rattle.dc_sparse.proofs.Scaling.{scale-here, scaled-set, taller, divisions_true, divided-all}

@@ -1,4 +1,4 @@
-use Rattle.std.proofs.Common.{◌≡◌, ◌<◌, ◌∙◌, true, Some, IsTrue, length, arith, set, refl, sym, subst, ap}
+use Rattle.std.proofs.Common.{◌<◌, ◌∙◌, Some, IsTrue, length, arith, set, refl, sym, subst, ap}
 use Rattle.dc_math.specs.Inverse.{◌/ℚ◌}
 use Rattle.dc_frac.specs.Value.{value}
 use Rattle.dc_sparse.specs.Entries.{entry_at}

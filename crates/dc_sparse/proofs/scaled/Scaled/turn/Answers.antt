@@ -1,6 +1,4 @@
-use Rattle.std.proofs.Common.{◌≡◌, ◌<◌, ◌∙◌, ℕ, true, false, Some, None, IsTrue, length, arith, sym, subst, ap, refl}
-use Rattle.dc_math.specs.Rational.{ℚ}
-use Rattle.dc_math.specs.Inverse.{◌/ℚ◌}
+use Rattle.std.proofs.Common.{◌≡◌, ◌<◌, ◌∙◌, ℕ, true, Some, None, length, arith, sym, ap, refl}
 use Rattle.dc_math.specs.Tests.{is_zero}
 use Rattle.dc_frac.specs.Fits.{quotient_fits}
 use Rattle.dc_frac.specs.Value.{value}
@@ -12,11 +10,11 @@ use Rattle.dc_sparse.proofs.HeldEntries.{held-none, whole_row, others_on}
 use Rattle.dc_sparse.proofs.TurnSteps.{entry_nonzero, divisions-held, divided-held, others_kept}
 use Rattle.dc_sparse.proofs.scaled.Scaled.turn.Goals as goal
 
-pub settle-requires-clause-by : goal.settle-requires-clause-by
-settle-requires-clause-by c = ap is_zero c.entry-by.ensures ∙ entry_nonzero c.args.self.now c.args.row c.args.col c.requires.entry
+pub lower-requires-clause-by : goal.lower-requires-clause-by
+lower-requires-clause-by c = ap is_zero c.entry-by.ensures ∙ entry_nonzero c.args.self.now c.args.row c.args.col c.requires.entry
 
-pub settle-requires-clause-fit : goal.settle-requires-clause-fit
-settle-requires-clause-fit c =
+pub lower-requires-clause-fit : goal.lower-requires-clause-fit
+lower-requires-clause-fit c =
     let s = c.args.self.now in
     let lt : c.args.row < length s.dens.items = (let l = s.scaled.long in omega arith) in
     let e : scale_at s.dens.items c.args.row ≡ Some _ = scale-read s.dens.items c.args.row c.index.result.now lt c.index.ensures ∙ c.in-Some.is in
@@ -78,7 +76,7 @@ returns-in-Some-clause-fits c =
 pub returns-in-Some-clause-divided : goal.returns-in-Some-clause-divided
 returns-in-Some-clause-divided c _ k lk =
     let s = c.args.self.now in
-    c.settle.ensures.here k ∙ divided-held s c.args.row c.args.col c.requires.entry (value c.entry-by.result) k c.entry-by.ensures
+    c.lower.ensures.here k ∙ divided-held s c.args.row c.args.col c.requires.entry (value c.entry-by.result) k c.entry-by.ensures
 
 pub returns-else-not-divide_row-clause-fits : goal.returns-else-not-divide_row-clause-fits
 returns-else-not-divide_row-clause-fits c =

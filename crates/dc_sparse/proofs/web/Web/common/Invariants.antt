@@ -1,7 +1,6 @@
-use Rattle.std.proofs.Common.{◌≡◌, ℕ, ◌<◌, ◌≤◌, ◌-◌, length, pos, ◌≤ℤ◌}
+use Rattle.std.proofs.Common.{◌≤◌, ◌-◌, length, pos, ◌≤ℤ◌}
 use Rattle.dc_sparse.specs.Nodes.{by_rows}
 use Rattle.dc_sparse.specs.Lines.{IsFirst}
-
 use Rattle.dc_sparse.proofs.web.Web.common.Given as goal
 
 abbrev pub invariant-loop-next : goal.invariant-loop-next

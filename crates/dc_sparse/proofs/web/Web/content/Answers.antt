@@ -1,20 +1,12 @@
-use Rattle.std.proofs.Common.{rules, ◌≡◌, ◌∙◌, ℕ, ◌<◌, pos, ◌≤ℤ◌, length, arith, Some, None, SFits, sym, subst, ap, refl}
-use Rattle.std.proofs.lemmas.Int.{ints, to_z-of_z}
+use Rattle.std.proofs.Common.{rules, ◌≡◌, ◌∙◌, length, arith, Some, SFits, ap}
+use Rattle.std.proofs.lemmas.Int.{to_z-of_z}
 use mir.Syntax.{w128}
-use Rattle.dc_math.specs.Rational.{ℚ}
 use Rattle.dc_math.specs.Tests.{is_zero}
-use Rattle.dc_math.specs.Inverse.{◌/ℚ◌}
-use Rattle.dc_frac.specs.Value.{value}
-use Rattle.dc_frac.specs.Fits.{quotient_fits}
 use Rattle.dc_sparse.specs.Lines.{IsFirst}
-use Rattle.dc_sparse.specs.Nodes.{by_rows, col_at, item, right_at, head_at}
-use Rattle.dc_sparse.specs.Entries.{entry_at}
-use Rattle.dc_sparse.specs.Scales.{IsWhole, IsPart}
-use Rattle.dc_sparse.proofs.Cells.{item_live, item-read}
+use Rattle.dc_sparse.specs.Nodes.{by_rows, col_at, right_at, head_at}
+use Rattle.dc_sparse.proofs.Cells.{item_live}
 use Rattle.dc_sparse.proofs.Links.{col-read, right-read, next_first}
-use Rattle.dc_sparse.proofs.Entries.{entry-node}
-use Rattle.dc_sparse.proofs.RowWalks.{each_node, each_end}
-use Rattle.dc_sparse.proofs.Wholes.{whole_nonzero, neg_nonzero, is_zero-/ℚ, part_zero}
+use Rattle.dc_sparse.proofs.Wholes.{whole_nonzero, neg_nonzero}
 use Rattle.dc_sparse.proofs.web.Web.content.Goals as goal
 
 pub index-requires : goal.index-requires

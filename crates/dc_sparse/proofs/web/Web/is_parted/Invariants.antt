@@ -1,4 +1,4 @@
-use Rattle.std.proofs.Common.{◌≡◌, ℕ, ◌<◌, ◌≤◌, ◌-◌, length, pos, ◌≤ℤ◌}
+use Rattle.std.proofs.Common.{ℕ, ◌<◌, ◌≤◌, ◌-◌, length}
 use Rattle.dc_sparse.specs.Nodes.{by_rows}
 use Rattle.dc_sparse.specs.Lines.{IsFirst}
 use Rattle.dc_frac.specs.Value.{value}
