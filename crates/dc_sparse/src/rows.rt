@@ -42,7 +42,7 @@ impl Web {
             let by = self.nodes[node].value;
             left = self.left_of(row, at, left);
             match self.entry_after(row, at, col, factor, by, left) {
-                Some(entry) => self.put(row, at, entry, left, None),
+                Some(entry) => self.put(row, at, entry, left),
                 None => return false,
             }
             done = at + 1;

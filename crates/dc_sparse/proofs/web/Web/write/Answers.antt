@@ -6,12 +6,12 @@ use Rattle.dc_sparse.specs.Nodes.{is_live}
 use Rattle.dc_sparse.specs.Entries.{entry_at, StandsAt, IsPut}
 use Rattle.dc_sparse.proofs.Cells.{item_live}
 use Rattle.dc_sparse.proofs.Entries.{entry-vacant, put_placed, put_cleared, put_same, takes_one, takes-zero, takes-entry, takes-both, vacant-zero, stands-nonzero}
-use Rattle.dc_sparse.proofs.web.Web.put.Goals as goal
+use Rattle.dc_sparse.proofs.web.Web.write.Goals as goal
 
-pub insert-node-requires-clause-spare : goal.insert-node-requires-clause-spare
-insert-node-requires-clause-spare c =
+pub insert-requires-clause-spare : goal.insert-requires-clause-spare
+insert-requires-clause-spare c =
     let w = c.args.self.now in
-    let nz : is_zero (value c.args.entry) ≡ false = sym c.is_zero-in-None.ensures ∙ c.if-not-is_zero.true in
+    let nz : is_zero (value c.args.entry) ≡ false = sym c.is_zero-in-None.ensures ∙ c.if-is_zero-2.false in
     let t = takes_one w.nodes.items c.args.row c.args.col (value c.args.entry) c.in-None.ensures nz in
     let s = c.requires.spare in
     omega arith
@@ -47,10 +47,10 @@ returns-else-is_zero-clause-spare c =
     let n = c.set.ensures.spare in
     omega arith
 
-pub returns-else-not-is_zero-clause-spare : goal.returns-else-not-is_zero-clause-spare
-returns-else-not-is_zero-clause-spare c =
+pub returns-then-is_zero-2-clause-spare : goal.returns-then-is_zero-2-clause-spare
+returns-then-is_zero-2-clause-spare c =
     let w = c.args.self.now in
-    let z : is_zero (value c.args.entry) ≡ true = sym c.is_zero-in-None.ensures ∙ c.if-not-is_zero.false in
+    let z : is_zero (value c.args.entry) ≡ true = sym c.is_zero-in-None.ensures ∙ c.if-is_zero-2.true in
     let t = takes-zero (entry_at w.nodes.items c.args.row c.args.col) (value c.args.entry) z in
     let u = takes-zero (value c.args.entry) (entry_at w.nodes.items c.args.row c.args.col) (vacant-zero w.nodes.items c.args.row c.args.col c.in-None.ensures) in
     omega arith
@@ -58,26 +58,26 @@ returns-else-not-is_zero-clause-spare c =
 pub returns-else-is_zero-clause-entry : goal.returns-else-is_zero-clause-entry
 returns-else-is_zero-clause-entry c = c.set.ensures.entry c.args.row c.args.col c.in-Some.ensures
 
-pub returns-then-not-is_zero-clause-entry : goal.returns-then-not-is_zero-clause-entry
-returns-then-not-is_zero-clause-entry c =
+pub returns-else-is_zero-2-clause-entry : goal.returns-else-is_zero-2-clause-entry
+returns-else-is_zero-2-clause-entry c =
     let w = c.args.self.now in
-    let v = c.insert-node.new.self in
-    let nz : is_zero (value c.args.entry) ≡ false = sym c.is_zero-in-None.ensures ∙ c.if-not-is_zero.true in
-    let p = c.insert-node.ensures.placed in
-    let l : is_live v.nodes.items c.insert-node.result ≡ true = ap (λ q. not (is_zero q)) p.item ∙ ap not nz in
-    put_placed w.nodes.items v.nodes.items c.insert-node.result c.args.row c.args.col (value c.args.entry) (item_live v.nodes.items c.insert-node.result l) v.woven.apart nz p
+    let v = c.insert.new.self in
+    let nz : is_zero (value c.args.entry) ≡ false = sym c.is_zero-in-None.ensures ∙ c.if-is_zero-2.false in
+    let p = c.insert.ensures.placed in
+    let l : is_live v.nodes.items c.insert.result ≡ true = ap (λ q. not (is_zero q)) p.item ∙ ap not nz in
+    put_placed w.nodes.items v.nodes.items c.insert.result c.args.row c.args.col (value c.args.entry) (item_live v.nodes.items c.insert.result l) v.woven.apart nz p
 
-pub returns-then-not-is_zero-clause-spare : goal.returns-then-not-is_zero-clause-spare
-returns-then-not-is_zero-clause-spare c =
+pub returns-else-is_zero-2-clause-spare : goal.returns-else-is_zero-2-clause-spare
+returns-else-is_zero-2-clause-spare c =
     let w = c.args.self.now in
-    let nz : is_zero (value c.args.entry) ≡ false = sym c.is_zero-in-None.ensures ∙ c.if-not-is_zero.true in
+    let nz : is_zero (value c.args.entry) ≡ false = sym c.is_zero-in-None.ensures ∙ c.if-is_zero-2.false in
     let t = takes_one w.nodes.items c.args.row c.args.col (value c.args.entry) c.in-None.ensures nz in
     let u = takes-entry (value c.args.entry) (entry_at w.nodes.items c.args.row c.args.col) nz in
-    let s = c.insert-node.ensures.spare in
+    let s = c.insert.ensures.spare in
     omega arith
 
-pub returns-else-not-is_zero-clause-entry : goal.returns-else-not-is_zero-clause-entry
-returns-else-not-is_zero-clause-entry c =
+pub returns-then-is_zero-2-clause-entry : goal.returns-then-is_zero-2-clause-entry
+returns-then-is_zero-2-clause-entry c =
     let w = c.args.self.now in
-    let z : value c.args.entry ≡ of_ℤ (pos 0) = eq_ℚ_true (value c.args.entry) (of_ℤ (pos 0)) (sym c.is_zero-in-None.ensures ∙ c.if-not-is_zero.false) in
+    let z : value c.args.entry ≡ of_ℤ (pos 0) = eq_ℚ_true (value c.args.entry) (of_ℤ (pos 0)) (sym c.is_zero-in-None.ensures ∙ c.if-is_zero-2.true) in
     put_same w.nodes.items c.args.row c.args.col (value c.args.entry) (entry-vacant w.nodes.items c.args.row c.args.col c.in-None.ensures ∙ sym z)
