@@ -20,6 +20,8 @@ pub mod SameTables
 pub mod Rooms
 pub mod Blank
 pub mod StartTables
+pub mod Fillings
+pub mod RatioSteps
 pub mod Growth
 pub mod Chains
 pub mod Held

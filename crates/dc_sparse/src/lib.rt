@@ -5,6 +5,7 @@ mod cross;
 mod fill;
 pub mod laws;
 mod memory;
+mod ratio;
 mod rows;
 mod web;
 mod writes;

@@ -1,7 +1,5 @@
-use Rattle.std.proofs.Common.{◌≡◌, ◌∙◌, not, true, false, length, arith, sym, ap}
+use Rattle.std.proofs.Common.{◌∙◌, not, arith, sym, ap}
 use Rattle.dc_math.specs.Tests.{is_zero}
-use Rattle.dc_frac.specs.Value.{value}
-use Rattle.dc_sparse.specs.Nodes.{row_at, col_at, item, is_live}
 use Rattle.dc_sparse.proofs.Cells.{item-read}
 use Rattle.dc_sparse.proofs.Links.{row-read, col-read}
 use Rattle.dc_sparse.proofs.web.Web.stands_before.Goals as goal
