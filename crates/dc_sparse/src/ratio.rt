@@ -3,12 +3,15 @@
 
 ghost use Rattle.std.specs.Prelude.{◌≡◌, ◌<◌, length};
 ghost use Rattle.dc_frac.specs.Value.{value};
+ghost use Rattle.dc_math.specs.Rational.{ℚ};
+ghost use Rattle.dc_lp.specs.Tables.{Table};
 ghost use Rattle.dc_lp.specs.Meanings.{ratio_answer};
 ghost use Rattle.dc_start.specs.Ratios.{row_of};
 ghost use Rattle.dc_sparse.specs.Lines.{IsLast};
 ghost use Rattle.dc_sparse.specs.Entries.{entry_at, IsNodeAt};
 ghost use Rattle.dc_sparse.specs.Shape.{IsShaped};
-ghost use Rattle.dc_sparse.specs.Held.{nodes_of, height_of, width_of, columns_of, table_of};
+ghost use Rattle.dc_sparse.specs.Ratios.{HasRatios};
+ghost use Rattle.dc_sparse.specs.Held.{nodes_of, height_of, width_of, columns_of};
 
 use crate::web::Web;
 use dc_frac::Frac;
@@ -17,7 +20,7 @@ use dc_start::{Candidate, better};
 
 impl Web {
     /// Of the equations' rows with a positive entry in a column, the one whose quotient of right side by entry is least, ties by the
-    /// least basic column; `None` exactly where no entry is positive.
+    /// least basic column; `None` exactly where no entry is positive. So in each table with these quotients.
     ///
     /// # Errors
     /// `PastQuotient` exactly where one of the quotients doesn't fit.
@@ -29,7 +32,7 @@ impl Web {
     ) -> Result<Option<usize>, PastQuotient>
         requires shape { IsShaped columns (length basis.now) (height_of self.now) (width_of self.now) }
         requires col { col < width_of self.now }
-        ensures { result ≡ ratio_answer (table_of columns basis.now self.now) col }
+        ensures { (t : Table ℚ) → HasRatios t columns basis.now (nodes_of self.now) col → result ≡ ratio_answer t col }
     {
         let right = columns + basis.len();
         let mut best: Option<Candidate> = None;
