@@ -7,7 +7,7 @@ ghost use Rattle.dc_frac.specs.Value.{value};
 ghost use Rattle.dc_sparse.specs.Lines.{IsLast};
 ghost use Rattle.dc_sparse.specs.Nodes.{row_at, col_at, is_live, IsIn, IsRelinkedRight, IsRelinkedDown, AreReheaded};
 ghost use Rattle.dc_sparse.specs.Webs.{IsVacant, IsPlaced, IsCleared};
-ghost use Rattle.dc_sparse.specs.Entries.{entry_at, StandsAt, IsPut, takes};
+ghost use Rattle.dc_sparse.specs.Entries.{entry_at, StandsAt, IsNodeAt, IsPut, takes};
 ghost use Rattle.dc_sparse.specs.Sizes.{HasGrown};
 ghost use Rattle.dc_sparse.specs.Held.{nodes_of, node_count, height_of, width_of, rows_of, columns_of};
 
@@ -31,15 +31,23 @@ impl Web {
         if !entry.is_zero() {
             self.reserve(1)?;
         }
-        self.put(row, col, entry, None);
+        self.put(row, col, entry, None, None);
         Ok(())
     }
 
-    /// Makes `entry` the entry at a place, which stands behind `left` in its row, and moves the column's stop there.
-    pub(crate) fn put(&mut self, row: usize, col: usize, entry: Frac, left: Option<usize>)
+    /// Makes `entry` the entry at a place, whose node is `found` and which stands behind `left` in its row. The column's stop moves there.
+    pub(crate) fn put(
+        &mut self,
+        row: usize,
+        col: usize,
+        entry: Frac,
+        left: Option<usize>,
+        found: Option<usize>,
+    )
         requires row { row < height_of self.old }
         requires col { col < width_of self.old }
         requires left { IsLast (rows_of self.old) row col left }
+        requires found { IsNodeAt (nodes_of self.old) row col found }
         requires spare { takes (entry_at (nodes_of self.old) row col) (value entry) ≤ self.old.spare }
         ensures entry { IsPut (nodes_of self.old) (nodes_of self.new) row col (value entry) }
         ensures spare { self.new.spare + takes (entry_at (nodes_of self.old) row col) (value entry)
@@ -48,15 +56,23 @@ impl Web {
         ensures height { height_of self.new ≡ height_of self.old }
         ensures width { width_of self.new ≡ width_of self.old }
     {
-        let stop = self.write(row, col, entry, left);
+        let stop = self.write(row, col, entry, left, found);
         self.stops[col] = stop;
     }
 
-    /// Makes `entry` the entry at a place, which stands behind `left` in its row. Gives the node there, and the one above it where there is none.
-    fn write(&mut self, row: usize, col: usize, entry: Frac, left: Option<usize>) -> Option<usize>
+    /// The same. Gives the node there, and the one above it where there is none any more.
+    fn write(
+        &mut self,
+        row: usize,
+        col: usize,
+        entry: Frac,
+        left: Option<usize>,
+        found: Option<usize>,
+    ) -> Option<usize>
         requires row { row < height_of self.old }
         requires col { col < width_of self.old }
         requires left { IsLast (rows_of self.old) row col left }
+        requires found { IsNodeAt (nodes_of self.old) row col found }
         requires spare { takes (entry_at (nodes_of self.old) row col) (value entry) ≤ self.old.spare }
         ensures entry { IsPut (nodes_of self.old) (nodes_of self.new) row col (value entry) }
         ensures spare { self.new.spare + takes (entry_at (nodes_of self.old) row col) (value entry)
@@ -65,7 +81,7 @@ impl Web {
         ensures height { height_of self.new ≡ height_of self.old }
         ensures width { width_of self.new ≡ width_of self.old }
     {
-        match self.node_at(row, col, left) {
+        match found {
             Some(node) => {
                 if entry.is_zero() {
                     let above = self.above_of(col, row, self.stop_before(col, row));
