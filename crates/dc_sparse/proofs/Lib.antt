@@ -24,9 +24,12 @@ pub mod PivotSteps
 pub mod Tables
 pub mod Places
 pub mod SameTables
+pub mod HeldRatios
 pub mod Rooms
 pub mod Blank
 pub mod StartTables
+pub mod Fillings
+pub mod RatioSteps
 pub mod Growth
 pub mod Chains
 pub mod Held

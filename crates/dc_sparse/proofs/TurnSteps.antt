@@ -1,10 +1,12 @@
 -- The pivot's row, and two rows of fractions, by what is held of them.
-use Rattle.std.proofs.Common.{◌≡◌, ℕ, false, List, None, refl, sym, ◌∙◌, ap}
-use Rattle.dc_math.specs.Rational.{ℚ}
-use Rattle.dc_math.specs.Inverse.{◌/ℚ◌}
+use Rattle.std.proofs.Common.{◌≡◌, ℕ, false, cond, ◌&&◌, ◌||◌, ◌==◌, pos, List, [], ◌∷◌, None, refl, sym, ◌∙◌, ap}
+use Rattle.dc_math.specs.Rational.{ℚ, of_ℤ, ◌-ℚ◌, ◌*ℚ◌}
+use Rattle.dc_math.specs.Inverse.{inverse, ◌/ℚ◌}
+use Rattle.dc_math.specs.RationalRing.{ring, reads, same_form}
 use Rattle.dc_math.specs.Tests.{is_zero}
-use Rattle.dc_frac.specs.Fits.{fits, quotient_fits}
+use Rattle.dc_frac.specs.Fits.{fits, quotient_fits, difference_fits}
 use Rattle.dc_lp.proofs.Belows.{all_below-same}
+use Rattle.dc_start.specs.Changes.{step_fits}
 use Rattle.dc_sparse.specs.declared.web.Node.{Node}
 use Rattle.dc_sparse.specs.declared.scaled.Scaled.{Scaled}
 use Rattle.dc_sparse.specs.Entries.{entry_at, KeepsPlaces}
@@ -52,23 +54,38 @@ pub gaps-same : (s : Scaled) (xs : List Node) (row pivot w : ℕ) → ((k : ℕ)
 unfolding row_gaps
 gaps-same s xs row pivot w h k = count_below-same _ _ w (λ j lj. rw (h j, k j) refl)
 
--- ---- two rows of fractions
+-- ---- a row of fractions, and the pivot's row as it is held
 
--- t holds what s does
-module _ (s t : Scaled) (row pivot col : ℕ) (same : (a b : ℕ) → held_at t a b ≡ held_at s a b) (one : scale_at t.dens.items row ≡ None) (other : scale_at t.dens.items pivot ≡ None) where
+-- t holds what s does, and `factor` times what it holds in row `pivot` is the product of the entries
+module _ (s t : Scaled) (row pivot col : ℕ) (same : (a b : ℕ) → held_at t a b ≡ held_at s a b) (one : scale_at t.dens.items row ≡ None)
+    (factor : ℚ) (product : (k : ℕ) → factor *ℚ entry_at t.web.nodes.items pivot k ≡ held_at s row col *ℚ held_at s pivot k) where
   pub at_row : (k : ℕ) → entry_at t.web.nodes.items row k ≡ held_at s row k
   at_row k = sym (held-none t row k one) ∙ same row k
 
-  pub at_pivot : (k : ℕ) → entry_at t.web.nodes.items pivot k ≡ held_at s pivot k
-  at_pivot k = sym (held-none t pivot k other) ∙ same pivot k
+  pub pivot_zero : (k : ℕ) → is_zero (entry_at t.web.nodes.items pivot k) ≡ is_zero (held_at s pivot k)
+  pivot_zero k = sym (held-zero t pivot k) ∙ ap is_zero (same pivot k)
 
   pub fractions_gaps : (w : ℕ) → row_gaps t.web.nodes.items row pivot w ≡ gaps_in_row (held_at s) row pivot w
-  fractions_gaps w = gaps-same s t.web.nodes.items row pivot w (λ k. ap is_zero (at_row k)) (λ k. ap is_zero (at_pivot k))
+  fractions_gaps w = gaps-same s t.web.nodes.items row pivot w (λ k. ap is_zero (at_row k)) pivot_zero
 
-  module _ (factor : ℚ) (e : factor ≡ entry_at t.web.nodes.items row col) where
-    pub fractions_fit : (w : ℕ) → reductions_fit t.web.nodes.items row pivot col factor w ≡ steps_fit (held_at s) w pivot col row
-    unfolding reductions_fit
-    fractions_fit w = all_below-same w _ _ (λ k lk. rw (e, at_row col, at_row k, at_pivot k) refl)
+  step_same : (k : ℕ) → step_fits factor (entry_at t.web.nodes.items pivot k) (entry_at t.web.nodes.items row k) ≡ step_fits (held_at s row col) (held_at s pivot k) (held_at s row k)
+  step_same k =
+      ap (λ b. b || fits (factor *ℚ entry_at t.web.nodes.items pivot k) && difference_fits (entry_at t.web.nodes.items row k) (factor *ℚ entry_at t.web.nodes.items pivot k)) (pivot_zero k)
+      ∙ ap (λ x. is_zero (held_at s pivot k) || fits x && difference_fits (entry_at t.web.nodes.items row k) x) (product k)
+      ∙ ap (λ y. is_zero (held_at s pivot k) || fits (held_at s row col *ℚ held_at s pivot k) && difference_fits y (held_at s row col *ℚ held_at s pivot k)) (at_row k)
 
-    pub fractions_after : (k : ℕ) → entry_after t.web.nodes.items row pivot col factor k ≡ stepped_at (held_at s) pivot col row k
-    fractions_after k = rw (e, at_row col, at_row k, at_pivot k) refl
+  pub fractions_fit : (w : ℕ) → reductions_fit t.web.nodes.items row pivot col factor w ≡ steps_fit (held_at s) w pivot col row
+  unfolding reductions_fit
+  fractions_fit w = all_below-same w _ _ (λ k lk. ap (λ b. k == col || b) (step_same k))
+
+  pub fractions_after : (k : ℕ) → entry_after t.web.nodes.items row pivot col factor k ≡ stepped_at (held_at s) pivot col row k
+  fractions_after k =
+      ap (λ x. cond (k == col) (of_ℤ (pos 0)) (entry_at t.web.nodes.items row k -ℚ x)) (product k)
+      ∙ ap (λ y. cond (k == col) (of_ℤ (pos 0)) (y -ℚ held_at s row col *ℚ held_at s pivot k)) (at_row k)
+
+-- a quotient by a denominator times what the row holds
+pub over_den : (x y d : ℚ) → (x /ℚ d) *ℚ y ≡ x *ℚ (y /ℚ d)
+over_den x y d = plain x y (inverse d)
+  where
+    plain : (x y i : ℚ) → (x *ℚ i) *ℚ y ≡ x *ℚ (y *ℚ i)
+    plain x y i = ring (x ∷ y ∷ i ∷ []) (λ ρ p q r. simp (p, q, r, reads) (same_form _ _ _ refl))

@@ -9,7 +9,7 @@ use Rattle.dc_math.specs.Inverse.{inverse, *ℚ-inverse, ◌/ℚ◌}
 use Rattle.dc_math.specs.Signs.{negated_positive}
 use Rattle.dc_math.specs.Order.{Positive, Positive_nonzero, Positive-*ℚ, inverse_positive, <ℚ_by, of_ℤ-<, of_ℤ-<_back, of_ℤ-neg_ℤ, one_nonzero}
 use Rattle.dc_math.specs.Lowest.{lowest, ratio-lowest, lowest-of_reduced}
-use Rattle.dc_math.specs.Tests.{is_zero, is_negative, eq_ℚ-true, eq_ℚ_true, eq_ℚ_false, lt_ℚ-true, lt_ℚ_true}
+use Rattle.dc_math.specs.Tests.{is_zero, is_negative, is_positive, eq_ℚ-true, eq_ℚ_true, eq_ℚ_false, lt_ℚ-true, lt_ℚ_true}
 use Rattle.dc_frac.specs.declared.Frac.{Frac}
 use Rattle.dc_frac.specs.Value.{value}
 use Rattle.dc_frac.specs.Fits.{fits, product_fits, quotient_fits, sum_fits, difference_fits, IsWithin}
@@ -70,6 +70,11 @@ pub is_negative-/ℚ : (x d : ℚ) → Positive d → is_negative (x /ℚ d) ≡
 is_negative-/ℚ x d p = same_test (is_negative (x /ℚ d)) (is_negative x)
     (λ h. lt_ℚ-true x (of_ℤ (pos 0)) (subst (λ z. z <ℚ of_ℤ (pos 0)) (there_and_back x d (inverse d) (*ℚ-inverse d (Positive_nonzero d p))) (below_zero (x /ℚ d) d (lt_ℚ_true (x /ℚ d) (of_ℤ (pos 0)) h) p)))
     (λ h. lt_ℚ-true (x /ℚ d) (of_ℤ (pos 0)) (below_zero x (inverse d) (lt_ℚ_true x (of_ℤ (pos 0)) h) (inverse_positive d p)))
+
+pub is_positive-/ℚ : (x d : ℚ) → Positive d → is_positive (x /ℚ d) ≡ is_positive x
+is_positive-/ℚ x d p = same_test (is_positive (x /ℚ d)) (is_positive x)
+    (λ h. lt_ℚ-true (of_ℤ (pos 0)) x (subst Positive (there_and_back x d (inverse d) (*ℚ-inverse d (Positive_nonzero d p))) (Positive-*ℚ (x /ℚ d) d (lt_ℚ_true (of_ℤ (pos 0)) (x /ℚ d) h) p)))
+    (λ h. lt_ℚ-true (of_ℤ (pos 0)) (x /ℚ d) (Positive-*ℚ x (inverse d) (lt_ℚ_true (of_ℤ (pos 0)) x h) (inverse_positive d p)))
 
 pub by_one : (x : ℚ) → x /ℚ of_ℤ (pos 1) ≡ x
 by_one x = one x (inverse (of_ℤ (pos 1))) (*ℚ-inverse (of_ℤ (pos 1)) one_nonzero)

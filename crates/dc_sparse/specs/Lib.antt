@@ -8,6 +8,7 @@ pub mod Rows
 pub mod Pivots
 pub mod Shape
 pub mod Sizes
+pub mod Ratios
 pub mod Held
 pub mod Meanings
 pub mod Fills

@@ -9,7 +9,7 @@ ghost use Rattle.dc_sparse.specs.Shape.{IsShaped};
 use crate::scaled::Scaled;
 use dc_frac::Frac;
 use dc_lp::{PastPivot, PastQuotient, Problem, Tableau};
-use dc_start::{Candidate, better, start_basis};
+use dc_start::start_basis;
 use std::alloc::{AllocError, Global};
 
 /// A tableau of linked nodes, one for each entry that isn't 0. The nodes stand in an arena: a pivot passes along the rows that have
@@ -117,18 +117,7 @@ impl Tableau for Cross {
     }
 
     fn ratio_row(&self, col: usize) -> Result<Option<usize>, PastQuotient> {
-        let right = self.columns + self.basis.len();
-        let mut best: Option<Candidate> = None;
-        for row in 0..self.basis.len() {
-            let entry = self.entry(row, col);
-            if entry.is_positive() {
-                let Some(ratio) = self.entry(row, right).div(entry) else {
-                    return Err(PastQuotient);
-                };
-                best = Some(better(&self.basis, Candidate { row, ratio }, best));
-            }
-        }
-        Ok(best.map(|candidate| candidate.row))
+        self.held.web.ratio_row(self.columns, &self.basis, col)
     }
 
     /// Makes as many nodes free as the pivot fills places, in an arena that grows by those that are missing.

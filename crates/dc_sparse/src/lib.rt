@@ -6,6 +6,7 @@ mod fill;
 pub mod laws;
 mod memory;
 mod pivot;
+mod ratio;
 mod rows;
 mod scaled;
 mod web;

@@ -2,6 +2,7 @@
 #![tactic(auto)]
 
 ghost use Rattle.std.specs.Prelude.{◌≡◌, ◌≢◌, ℕ, ◌+◌, ◌<◌, ◌≤◌, IsTrue, Some, None, true, false};
+ghost use Rattle.dc_math.specs.Rational.{◌*ℚ◌};
 ghost use Rattle.dc_math.specs.Inverse.{◌/ℚ◌};
 ghost use Rattle.dc_math.specs.Tests.{is_zero};
 ghost use Rattle.dc_frac.specs.Value.{value};
@@ -16,7 +17,7 @@ use crate::scaled::Scaled;
 use dc_frac::Frac;
 
 impl Scaled {
-    ghost use Rattle.dc_sparse.specs.Held.{nodes_of, node_count, height_of, width_of, held_at, KeepsHeld, KeepsOthers};
+    ghost use Rattle.dc_sparse.specs.Held.{nodes_of, node_count, height_of, width_of, held_at, KeepsHeld, KeepsOthers, KeepsEntries};
 
     /// Makes the pivot at a place with an entry. Whether it fits; where it doesn't, the rows are left half done. It takes no memory.
     pub(crate) fn pivot(&mut self, row: usize, col: usize) -> bool
@@ -176,13 +177,32 @@ impl Scaled {
         ensures width { width_of self.new.web ≡ width_of self.old.web }
     {
         self.spread(row);
-        self.spread(pivot);
-        let factor = self.web.entry(row, col);
+        let factor = self.factor(row, pivot, col);
         if !self.web.reduce_row(row, pivot, col, factor) {
             return false;
         }
         self.gather(row);
-        self.gather(pivot);
         true
+    }
+
+    /// What row `pivot` is multiplied by as it is held, to be taken from a row of fractions: that row's entry over its denominator.
+    /// Where the quotient doesn't fit, row `pivot` becomes one of fractions.
+    fn factor(&mut self, row: usize, pivot: usize, col: usize) -> Frac
+        requires row { row < height_of self.old.web }
+        requires pivot { pivot < height_of self.old.web }
+        requires other { pivot ≢ row }
+        requires fractions { scale_at self.old.dens.items row ≡ None }
+        ensures factor { (k : ℕ) → value result *ℚ entry_at (nodes_of self.new.web) pivot k
+            ≡ held_at self.old row col *ℚ held_at self.old pivot k }
+        ensures entries { KeepsEntries self.old self.new pivot }
+    {
+        let number = self.web.entry(row, col);
+        if let Some(den) = self.dens[pivot] {
+            if let Some(factor) = number.div(den) {
+                return factor;
+            }
+            self.spread(pivot);
+        }
+        number
     }
 }

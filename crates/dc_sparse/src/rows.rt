@@ -6,7 +6,7 @@ ghost use Rattle.dc_math.specs.Tests.{is_zero};
 ghost use Rattle.dc_frac.specs.Value.{value, IsChecked};
 ghost use Rattle.dc_start.specs.Changes.{step_fits};
 ghost use Rattle.dc_sparse.specs.Lines.{IsLast};
-ghost use Rattle.dc_sparse.specs.Entries.{entry_at, KeepsPlaces};
+ghost use Rattle.dc_sparse.specs.Entries.{entry_at, IsNodeAt, KeepsPlaces};
 ghost use Rattle.dc_sparse.specs.Rows.{IsFirstNegative, reductions_fit, reduced_entry, row_gaps, AreReduced, KeepsRows};
 ghost use Rattle.dc_sparse.specs.Rows.{divisions_fit, AreDivided, rows_gaps};
 ghost use Rattle.dc_sparse.specs.Held.{nodes_of, node_count, height_of, width_of, rows_of};
@@ -40,8 +40,9 @@ impl Web {
             let at = self.nodes[node].col;
             let by = self.nodes[node].value;
             left = self.left_of(row, at, left);
-            match self.entry_after(row, at, col, factor, by, left) {
-                Some(entry) => self.put(row, at, entry, left, None),
+            let found = self.node_at(row, at, left);
+            match self.entry_after(row, at, col, factor, by, found) {
+                Some(entry) => self.put(row, at, entry, left, found),
                 None => return false,
             }
             done = at + 1;
@@ -150,7 +151,7 @@ impl Web {
         Some(count)
     }
 
-    /// What the entry in a column of a row becomes, where the pivot's row has `by` there.
+    /// What the entry in a column of a row becomes, whose node is `found`, where the pivot's row has `by` there.
     fn entry_after(
         &self,
         row: usize,
@@ -158,10 +159,9 @@ impl Web {
         col: usize,
         factor: Frac,
         by: Frac,
-        left: Option<usize>,
+        found: Option<usize>,
     ) -> Option<Frac>
-        requires row { row < height_of self.now }
-        requires left { IsLast (rows_of self.now) row at left }
+        requires found { IsNodeAt (nodes_of self.now) row at found }
         ensures { let old = entry_at (nodes_of self.now) row at in
             IsChecked result (at == col || step_fits (value factor) (value by) old)
             (reduced_entry at col (value factor) (value by) old) }
@@ -169,7 +169,7 @@ impl Web {
         if at == col {
             return Some(Frac::whole(0));
         }
-        match self.node_at(row, at, left) {
+        match found {
             Some(node) => step(self.nodes[node].value, factor, by),
             None => step(Frac::whole(0), factor, by),
         }

@@ -1,7 +1,7 @@
 use Rattle.std.proofs.Common.{◌≡◌, ℕ, ◌+◌, ◌≤◌, length}
 use Rattle.dc_sparse.specs.Sizes.{HasGrown}
 use Rattle.dc_sparse.specs.Fills.{IsFilling}
-use Rattle.dc_sparse.proofs.web.Web.fill_column.Given as goal
+use Rattle.dc_sparse.proofs.web.Web.fill_right.Given as goal
 
 abbrev pub invariant-loop-row : goal.invariant-loop-row
 invariant-loop-row l = record {
