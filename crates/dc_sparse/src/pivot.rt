@@ -11,7 +11,8 @@ ghost use Rattle.dc_frac.specs.Fits.{quotient_fits};
 ghost use Rattle.dc_sparse.specs.Entries.{entry_at};
 ghost use Rattle.dc_sparse.specs.Scales.{scale_at};
 ghost use Rattle.dc_sparse.specs.Pivots.{entries_fit, ArePivoted, quotients_fit};
-ghost use Rattle.dc_sparse.specs.Rows.{steps_fit, stepped_at, rows_fit, RowsAreReduced, gaps_in_row, gaps_in_rows};
+ghost use Rattle.dc_sparse.specs.Rows.{steps_fit, stepped_at, rows_fit, RowsAreReduced};
+ghost use Rattle.dc_sparse.specs.Rows.{gaps_in_row, gaps_in_rows};
 
 use crate::scaled::Scaled;
 use dc_frac::Frac;
@@ -24,10 +25,13 @@ impl Scaled {
         requires row { row < height_of self.old.web }
         requires col { col < width_of self.old.web }
         requires entry { is_zero (held_at self.old row col) ≡ false }
-        requires spare { gaps_in_rows (held_at self.old) (width_of self.old.web) row col (height_of self.old.web) ≤ self.old.web.spare }
-        ensures fits { result ≡ entries_fit (held_at self.old) (width_of self.old.web) (height_of self.old.web) row col }
+        requires spare { gaps_in_rows (held_at self.old) (width_of self.old.web) row col (height_of self.old.web)
+            ≤ self.old.web.spare }
+        ensures fits { result
+            ≡ entries_fit (held_at self.old) (width_of self.old.web) (height_of self.old.web) row col }
         ensures pivoted { IsTrue result
-            → ArePivoted (held_at self.old) (held_at self.new) (width_of self.old.web) (height_of self.old.web) row col }
+            → ArePivoted (held_at self.old) (held_at self.new) (width_of self.old.web)
+            (height_of self.old.web) row col }
         ensures arena { node_count self.new.web ≡ node_count self.old.web }
         ensures height { height_of self.new.web ≡ height_of self.old.web }
         ensures width { width_of self.new.web ≡ width_of self.old.web }
@@ -68,10 +72,13 @@ impl Scaled {
         requires pivot { pivot < height_of self.old.web }
         requires col { col < width_of self.old.web }
         requires entry { is_zero (held_at self.old pivot col) ≡ false }
-        requires spare { gaps_in_rows (held_at self.old) (width_of self.old.web) pivot col (height_of self.old.web) ≤ self.old.web.spare }
-        ensures fits { result ≡ rows_fit (held_at self.old) (width_of self.old.web) pivot col (height_of self.old.web) }
+        requires spare { gaps_in_rows (held_at self.old) (width_of self.old.web) pivot col
+            (height_of self.old.web) ≤ self.old.web.spare }
+        ensures fits { result
+            ≡ rows_fit (held_at self.old) (width_of self.old.web) pivot col (height_of self.old.web) }
         ensures reduced { IsTrue result
-            → RowsAreReduced (held_at self.old) (held_at self.new) (width_of self.old.web) pivot col (height_of self.old.web) }
+            → RowsAreReduced (held_at self.old) (held_at self.new) (width_of self.old.web) pivot col
+            (height_of self.old.web) }
         ensures arena { node_count self.new.web ≡ node_count self.old.web }
         ensures height { height_of self.new.web ≡ height_of self.old.web }
         ensures width { width_of self.new.web ≡ width_of self.old.web }
@@ -100,13 +107,15 @@ impl Scaled {
         requires other { pivot ≢ row }
         requires number { value number ≡ entry_at (nodes_of self.old.web) row col }
         requires entry { is_zero (held_at self.old pivot col) ≡ false }
-        requires spare { gaps_in_row (held_at self.old) row pivot (width_of self.old.web) ≤ self.old.web.spare }
+        requires spare { gaps_in_row (held_at self.old) row pivot (width_of self.old.web)
+            ≤ self.old.web.spare }
         ensures fits { result ≡ steps_fit (held_at self.old) (width_of self.old.web) pivot col row }
         ensures reduced { IsTrue result → (k : ℕ) → k < width_of self.old.web
             → held_at self.new row k ≡ stepped_at (held_at self.old) pivot col row k }
         ensures others { KeepsHeld self.old self.new row }
         ensures spare { IsTrue result
-            → self.old.web.spare ≤ self.new.web.spare + gaps_in_row (held_at self.old) row pivot (width_of self.old.web) }
+            → self.old.web.spare ≤ self.new.web.spare
+            + gaps_in_row (held_at self.old) row pivot (width_of self.old.web) }
         ensures arena { node_count self.new.web ≡ node_count self.old.web }
         ensures height { height_of self.new.web ≡ height_of self.old.web }
         ensures width { width_of self.new.web ≡ width_of self.old.web }
@@ -137,12 +146,14 @@ impl Scaled {
         requires mine { scale_at self.old.dens.items row ≡ Some mine }
         requires den { scale_at self.old.dens.items pivot ≡ Some other }
         requires entry { is_zero (held_at self.old pivot col) ≡ false }
-        requires spare { gaps_in_row (held_at self.old) row pivot (width_of self.old.web) ≤ self.old.web.spare }
+        requires spare { gaps_in_row (held_at self.old) row pivot (width_of self.old.web)
+            ≤ self.old.web.spare }
         ensures fits { steps_fit (held_at self.old) (width_of self.old.web) pivot col row ≡ true }
         ensures reduced { (k : ℕ) → k < width_of self.old.web
             → held_at self.new row k ≡ stepped_at (held_at self.old) pivot col row k }
         ensures others { KeepsHeld self.old self.new row }
-        ensures spare { self.old.web.spare ≤ self.new.web.spare + gaps_in_row (held_at self.old) row pivot (width_of self.old.web) }
+        ensures spare { self.old.web.spare
+            ≤ self.new.web.spare + gaps_in_row (held_at self.old) row pivot (width_of self.old.web) }
         ensures arena { node_count self.new.web ≡ node_count self.old.web }
         ensures height { height_of self.new.web ≡ height_of self.old.web }
         ensures width { width_of self.new.web ≡ width_of self.old.web }
@@ -165,13 +176,15 @@ impl Scaled {
         requires pivot { pivot < height_of self.old.web }
         requires other { pivot ≢ row }
         requires entry { is_zero (held_at self.old pivot col) ≡ false }
-        requires spare { gaps_in_row (held_at self.old) row pivot (width_of self.old.web) ≤ self.old.web.spare }
+        requires spare { gaps_in_row (held_at self.old) row pivot (width_of self.old.web)
+            ≤ self.old.web.spare }
         ensures fits { result ≡ steps_fit (held_at self.old) (width_of self.old.web) pivot col row }
         ensures reduced { IsTrue result → (k : ℕ) → k < width_of self.old.web
             → held_at self.new row k ≡ stepped_at (held_at self.old) pivot col row k }
         ensures others { KeepsHeld self.old self.new row }
         ensures spare { IsTrue result
-            → self.old.web.spare ≤ self.new.web.spare + gaps_in_row (held_at self.old) row pivot (width_of self.old.web) }
+            → self.old.web.spare ≤ self.new.web.spare
+            + gaps_in_row (held_at self.old) row pivot (width_of self.old.web) }
         ensures arena { node_count self.new.web ≡ node_count self.old.web }
         ensures height { height_of self.new.web ≡ height_of self.old.web }
         ensures width { width_of self.new.web ≡ width_of self.old.web }

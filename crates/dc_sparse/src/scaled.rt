@@ -68,7 +68,8 @@ impl Scaled {
         ensures err { OnErr result (nodes_of self.new.web ≡ nodes_of self.old.web) }
         ensures kept { KeepsAll (nodes_of self.old.web) (nodes_of self.new.web) }
         ensures entries { (i k : ℕ) → held_at self.new i k ≡ held_at self.old i k }
-        ensures live { node_count self.new.web + self.old.web.spare ≡ node_count self.old.web + self.new.web.spare }
+        ensures live { node_count self.new.web + self.old.web.spare
+            ≡ node_count self.old.web + self.new.web.spare }
         ensures spare { self.old.web.spare ≤ self.new.web.spare }
         ensures rows { self.new.web.row_heads.items ≡ self.old.web.row_heads.items }
         ensures columns { self.new.web.col_heads.items ≡ self.old.web.col_heads.items }
@@ -106,7 +107,8 @@ impl Scaled {
         requires fractions { AreFractions self.old.dens.items 0 }
         ensures ok { OnOk result (IsStarted p.now (held_at self.new)) }
         ensures part { IsPartOf p.now (nodes_of self.new.web) (p.now.rows + 2) }
-        ensures arena { (n : ℕ) → HasGrown n (node_count self.old.web) self.old.web.spare → HasGrown n (node_count self.new.web) self.new.web.spare }
+        ensures arena { (n : ℕ) → HasGrown n (node_count self.old.web) self.old.web.spare
+            → HasGrown n (node_count self.new.web) self.new.web.spare }
         ensures height { height_of self.new.web ≡ height_of self.old.web }
         ensures width { width_of self.new.web ≡ width_of self.old.web }
     {
@@ -150,7 +152,8 @@ impl Scaled {
     pub(crate) fn split(&mut self, row: usize, by: Frac)
         requires row { row < height_of self.old.web }
         requires by { is_zero (value by) ≡ false }
-        requires fit { (k : ℕ) → quotient_fits (entry_at (nodes_of self.old.web) row k) (value by) ≡ true }
+        requires fit { (k : ℕ)
+            → quotient_fits (entry_at (nodes_of self.old.web) row k) (value by) ≡ true }
         ensures taken { TakesOver self.old self.new row (value by) }
         ensures den { scale_at self.new.dens.items row ≡ None }
     {
@@ -177,7 +180,8 @@ impl Scaled {
     pub(crate) fn lower(&mut self, row: usize, by: Frac)
         requires row { row < height_of self.old.web }
         requires by { is_zero (value by) ≡ false }
-        requires fit { (k : ℕ) → quotient_fits (entry_at (nodes_of self.old.web) row k) (value by) ≡ true }
+        requires fit { (k : ℕ)
+            → quotient_fits (entry_at (nodes_of self.old.web) row k) (value by) ≡ true }
         ensures { TakesOver self.old self.new row (value by) }
     {
         let share = self.web.content(row, by);
@@ -191,7 +195,8 @@ impl Scaled {
     pub(crate) fn settle(&mut self, row: usize, by: Frac)
         requires row { row < height_of self.old.web }
         requires by { is_zero (value by) ≡ false }
-        requires fit { (k : ℕ) → quotient_fits (entry_at (nodes_of self.old.web) row k) (value by) ≡ true }
+        requires fit { (k : ℕ)
+            → quotient_fits (entry_at (nodes_of self.old.web) row k) (value by) ≡ true }
         ensures { TakesOver self.old self.new row (value by) }
     {
         if !self.keep(row, by) {

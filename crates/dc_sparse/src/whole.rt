@@ -81,8 +81,10 @@ impl Web {
     pub(crate) fn multiply_row(&mut self, row: usize, by: i128)
         requires row { row < height_of self.old }
         requires positive { pos 1 ≤ℤ by }
-        requires fit { (k : ℕ) → product_fits (entry_at (nodes_of self.old) row k) (of_ℤ by) ≡ true }
-        ensures multiplied { (k : ℕ) → entry_at (nodes_of self.new) row k ≡ entry_at (nodes_of self.old) row k *ℚ of_ℤ by }
+        requires fit { (k : ℕ)
+            → product_fits (entry_at (nodes_of self.old) row k) (of_ℤ by) ≡ true }
+        ensures multiplied { (k : ℕ)
+            → entry_at (nodes_of self.new) row k ≡ entry_at (nodes_of self.old) row k *ℚ of_ℤ by }
         ensures others { KeepsRows (nodes_of self.old) (nodes_of self.new) row }
         ensures places { KeepsPlaces (nodes_of self.old) (nodes_of self.new) }
         ensures sizes { KeepsSizes self.old self.new }
