@@ -4,7 +4,15 @@ use Rattle.std.proofs.lemmas.Bool.{cases_Bool, ltb-true, ltb-false}
 use Rattle.dc_sparse.specs.declared.web.Web.{Web}
 use Rattle.dc_sparse.specs.Nodes.{row_at, col_at, is_live, by_rows, by_columns, head_at}
 use Rattle.dc_sparse.specs.Chains.{IsListOf, IsFreeListOf}
-use Rattle.dc_sparse.specs.Held.{height_of, width_of, rows_of, columns_of}
+use Rattle.dc_sparse.specs.declared.scaled.Scaled.{Scaled}
+use Rattle.dc_math.specs.Inverse.{◌/ℚ◌}
+use Rattle.dc_math.specs.Tests.{is_zero}
+use Rattle.dc_sparse.specs.Entries.{entry_at}
+use Rattle.dc_sparse.specs.Scales.{scale_at, den_of, scaled_at}
+use Rattle.dc_sparse.proofs.Quotients.{zero_by}
+use Rattle.dc_sparse.proofs.Wholes.{is_zero-zero}
+use Rattle.dc_sparse.proofs.Scaling.{den_of-positive}
+use Rattle.dc_sparse.specs.Held.{held_at, height_of, width_of, rows_of, columns_of}
 use Rattle.dc_sparse.specs.Laws.{row_head, column_head, IsHeld, HasLists}
 use Rattle.dc_sparse.proofs.Cells.{item_live}
 use Rattle.dc_sparse.proofs.Chains.{line_list, free_list, fall_dead}
@@ -35,20 +43,22 @@ module _ (w : Web) where
       let e : is_live w.nodes.items a ≡ false = ap (is_live w.nodes.items) (sym h.2) ∙ d in
       cc
 
-  held : IsHeld w (λ i. (row_list i).0) (λ k. (column_list k).0) free_one.0
-  held = record {
-    row_lists = λ i l. (row_list i).1 l;
-    column_lists = λ k l. (column_list k).1 l;
-    free_list = free_one.1;
-    linked = λ a l la. (
-      ((row_list (row_at w.nodes.items a)).1 (w.woven.within a la).0).all a (record { live = la; line = refl; place = omega arith }),
-      ((column_list (col_at w.nodes.items a)).1 (w.woven.within a la).1).all a (record { live = la; line = refl; place = omega arith }),
-      not_free a la,
-    );
-    unused = λ a l d. free_one.1.all a (record { inside = l; dead = d });
-    values = λ a i k s. entry-node w.nodes.items a i k (item_live w.nodes.items a s.live) w.woven.apart s;
-    zeros = λ i k v. entry-vacant w.nodes.items i k v;
-  }
+held : (s : Scaled) → IsHeld s (λ i. (row_list s.web i).0) (λ k. (column_list s.web k).0) (free_one s.web).0
+unfolding held_at scaled_at
+held s = record {
+  row_lists = λ i l. (row_list s.web i).1 l;
+  column_lists = λ k l. (column_list s.web k).1 l;
+  free_list = (free_one s.web).1;
+  linked = λ a l la. (
+    ((row_list s.web (row_at s.web.nodes.items a)).1 (s.web.woven.within a la).0).all a (record { live = la; line = refl; place = omega arith }),
+    ((column_list s.web (col_at s.web.nodes.items a)).1 (s.web.woven.within a la).1).all a (record { live = la; line = refl; place = omega arith }),
+    not_free s.web a la,
+  );
+  unused = λ a l d. (free_one s.web).1.all a (record { inside = l; dead = d });
+  values = λ a i k t. ap (λ x. x /ℚ den_of (scale_at s.dens.items i)) (entry-node s.web.nodes.items a i k (item_live s.web.nodes.items a t.live) s.web.woven.apart t);
+  zeros = λ i k v. zero_by (entry_at s.web.nodes.items i k) (den_of (scale_at s.dens.items i)) (ap is_zero (entry-vacant s.web.nodes.items i k v) ∙ is_zero-zero);
+  dens = λ i. den_of-positive (scale_at s.dens.items i) (entry_at s.web.nodes.items i) (s.scaled.rows i);
+}
 
 pub has_lists : HasLists
-has_lists c = (λ i. (row_list c.web i).0, λ k. (column_list c.web k).0, (free_one c.web).0, held c.web)
+has_lists c = (λ i. (row_list c.held.web i).0, λ k. (column_list c.held.web k).0, (free_one c.held.web).0, held c.held)

@@ -4,7 +4,7 @@ use Rattle.std.proofs.lemmas.List.{get_or_default}
 use Rattle.std.proofs.lemmas.Bool.{cases_Bool, ltb-true, ltb-false}
 use Rattle.dc_sparse.specs.declared.web.Node.{Node}
 use Rattle.dc_sparse.specs.Lines.{Lines, IsFirst, IsLast, AreLinked, IsStop, StandsBefore, place_after}
-use Rattle.dc_sparse.specs.Nodes.{row_at, col_at, right_at, down_at, head_at, by_rows}
+use Rattle.dc_sparse.specs.Nodes.{row_at, col_at, right_at, down_at, head_at, by_rows, by_columns}
 use Rattle.dc_sparse.specs.Webs.{IsVacant}
 use Rattle.dc_sparse.specs.Entries.{StandsAt}
 use Rattle.dc_sparse.proofs.Lines.{first_behind, first_ahead}
@@ -109,3 +109,24 @@ first_isnt xs i k left n l f ne c lc e q =
 
 pub first_isnt_there : (xs : List Node) (i k : ℕ) (left : Option ℕ) → IsLast (by_rows xs) i k left → IsFirst (by_rows xs) i (place_after (by_rows xs) left) None → IsVacant xs i k
 first_isnt_there xs i k left l f c lc e q = last_first (by_rows xs) i k left None l f c (record { live = lc; line = e; place = omega arith })
+
+-- ---- the same in a column
+
+pub below_is : (xs : List Node) (i k : ℕ) (above : Option ℕ) (n : ℕ) → IsLast (by_columns xs) k i above → IsFirst (by_columns xs) k (place_after (by_columns xs) above) (Some n) → row_at xs n ≡ i → StandsAt xs n i k
+below_is xs i k above n l f e = record { live = f.0.live; row = e; col = f.0.line }
+
+pub below_isnt : (xs : List Node) (i k : ℕ) (above : Option ℕ) (n : ℕ) → IsLast (by_columns xs) k i above → IsFirst (by_columns xs) k (place_after (by_columns xs) above) (Some n) → row_at xs n ≢ i → IsVacant xs i k
+below_isnt xs i k above n l f ne c lc e q =
+    let g = last_first (by_columns xs) k i above (Some n) l f in
+    let le = g.0.place in
+    let w = g.1 c (record { live = lc; line = q; place = omega arith }) in
+    omega arith
+
+-- a stop before a place stands before each later one, and so does the last node before it
+pub stands_later : (s : Lines) (i k m : ℕ) (o : Option ℕ) → k ≤ m → StandsBefore s i k o → StandsBefore s i m o
+stands_later s i k m None le b = tt
+stands_later s i k m (Some p) le b = (let l = b.place in record { live = b.live; line = b.line; place = omega arith })
+
+pub last_later : (s : Lines) (i k : ℕ) (o : Option ℕ) → IsLast s i k o → StandsBefore s i (k + 1) o
+last_later s i k None l = tt
+last_later s i k (Some p) l = stands_later s i k (k + 1) (Some p) (omega arith) l.0

@@ -11,7 +11,7 @@ use Rattle.dc_start.proofs.Changes.{quotient-zero}
 use Rattle.dc_sparse.specs.declared.web.Node.{Node}
 use Rattle.dc_sparse.specs.Lines.{AreApart, AreLinked, IsFirst}
 use Rattle.dc_sparse.specs.Nodes.{col_at, item, right_at, by_rows}
-use Rattle.dc_sparse.specs.Entries.{entry_at, StandsAt, IsPut}
+use Rattle.dc_sparse.specs.Entries.{entry_at, StandsAt, IsPut, KeepsPlaces}
 use Rattle.dc_sparse.specs.Rows.{divisions_fit, AreDivided, KeepsRows}
 use Rattle.dc_sparse.proofs.Links.{next_first}
 use Rattle.dc_sparse.proofs.Entries.{entry-node, item-live}
@@ -39,6 +39,7 @@ pub record IsDividing (old new : List Node) (i : ℕ) (by : ℚ) (n : ℕ) : Typ
   pub divided : AreDivided old new i by n
   pub later : (k : ℕ) → n ≤ k → entry_at new i k ≡ entry_at old i k
   pub rows : KeepsRows old new i
+  pub places : KeepsPlaces old new
 
 pub dividing_start : (xs : List Node) (i : ℕ) (by : ℚ) → IsDividing xs xs i by 0
 unfolding divisions_fit
@@ -47,6 +48,25 @@ dividing_start xs i by = record {
   divided = λ k lt. absurd (omega arith);
   later = λ k le. refl;
   rows = record { entries = λ a b ne. refl; stays = λ n a b ne s. s; stood = λ n a b ne s. s };
+  places = record { stays = λ n a b s. s; stood = λ n a b s. s };
+}
+
+-- a node that gets another value keeps its place, and so do all others
+pub places_put : (xs ys : List Node) (node i k : ℕ) (v : ℚ) → IsPut xs ys i k v → ((n a b : ℕ) → StandsAt xs n a b → StandsAt ys n a b) → AreApart (by_rows ys) → StandsAt xs node i k → KeepsPlaces xs ys
+places_put xs ys node i k v p stays one s = record {
+  stays = stays;
+  stood = λ m a b t. elim (cases_Bool (a == i)) [
+    | inl q ↦ elim (cases_Bool (b == k)) [
+      | inl u ↦
+          (let ea : a ≡ i = eqb-true a i q in
+          let eb : b ≡ k = eqb-true b k u in
+          let there : StandsAt ys node i k = stays node i k s in
+          let same : m ≡ node = one m node t.live there.live (t.row ∙ ea ∙ sym there.row) (t.col ∙ eb ∙ sym there.col) in
+          subst (λ x. StandsAt xs x a b) (sym same) (subst (λ x. StandsAt xs node x b) (sym ea) (subst (λ x. StandsAt xs node i x) (sym eb) s)))
+      | inr u ↦ p.stood m a b (λ _ z. eqb-false b k u z) t
+    ]
+    | inr q ↦ p.stood m a b (λ z _. eqb-false a i q z) t
+  ];
 }
 
 module _ (old new : List Node) (i : ℕ) (by : ℚ) (n : ℕ) (h : IsDividing old new i by n) where
@@ -62,11 +82,12 @@ module _ (old new : List Node) (i : ℕ) (by : ℚ) (n : ℕ) (h : IsDividing ol
         ];
         later = λ k l. h.later k (omega arith);
         rows = h.rows;
+        places = h.places;
       }
 
-  pub dividing_put : (newer : List Node) (v : ℚ) → quotient_fits (entry_at old i n) by ≡ true → v ≡ entry_at old i n /ℚ by → IsPut new newer i n v → IsDividing old newer i by (n + 1)
+  pub dividing_put : (newer : List Node) (v : ℚ) → quotient_fits (entry_at old i n) by ≡ true → v ≡ entry_at old i n /ℚ by → IsPut new newer i n v → KeepsPlaces new newer → IsDividing old newer i by (n + 1)
   unfolding divisions_fit
-  dividing_put newer v f e p = record {
+  dividing_put newer v f e p t = record {
     fit = rw (add-one, h.fit, f) refl;
     divided = λ k lt. elim (cases_Bool (k == n)) [
       | inl q ↦ (let same : k ≡ n = eqb-true k n q in ap (entry_at newer i) same ∙ p.here ∙ e ∙ ap (λ x. entry_at old i x /ℚ by) (sym same))
@@ -78,6 +99,7 @@ module _ (old new : List Node) (i : ℕ) (by : ℚ) (n : ℕ) (h : IsDividing ol
       stays = λ m a b ne t. p.stays m a b (λ z _. ne z) (h.rows.stays m a b ne t);
       stood = λ m a b ne t. h.rows.stood m a b ne (p.stood m a b (λ z _. ne z) t);
     };
+    places = record { stays = λ m a b u. t.stays m a b (h.places.stays m a b u); stood = λ m a b u. h.places.stood m a b (t.stood m a b u) };
   }
 
   pub dividing_fails : (w : ℕ) → n < w → quotient_fits (entry_at old i n) by ≡ false → divisions_fit old i by w ≡ false
@@ -106,12 +128,14 @@ module _ (old new : List Node) (i : ℕ) (by : ℚ) (done node : ℕ) (h : IsAcr
   across_fails w lt e = dividing_fails old new i by (col_at new node) across_at w lt (rw (← across_entry) e)
 
   pub across_step : (newer : List Node) (v : ℚ) (lines : ℕ) (head : ℕ → Option ℕ) → quotient_fits (item new node) by ≡ true → v ≡ item new node /ℚ by
-      → IsPut new newer i (col_at new node) v → StandsAt newer node i (col_at new node) → AreLinked (by_rows newer) lines head
+      → IsPut new newer i (col_at new node) v → ((n a b : ℕ) → StandsAt new n a b → StandsAt newer n a b) → AreApart (by_rows newer) → AreLinked (by_rows newer) lines head
       → IsAcross old newer i by (col_at new node + 1) (right_at newer node)
-  across_step newer v lines head f e p t linked = record {
-    row = dividing_put old new i by (col_at new node) across_at newer v (rw (← across_entry) f) (rw (← across_entry) e) p;
-    next = subst (λ k. IsFirst (by_rows newer) i (k + 1) (right_at newer node)) t.col (next_first (by_rows newer) lines head i node linked (t.live, t.row));
-  }
+  across_step newer v lines head f e p stays apart linked =
+      let t : StandsAt newer node i (col_at new node) = stays node i (col_at new node) across_stands in
+      record {
+        row = dividing_put old new i by (col_at new node) across_at newer v (rw (← across_entry) f) (rw (← across_entry) e) p (places_put new newer node i (col_at new node) v p stays apart across_stands);
+        next = subst (λ k. IsFirst (by_rows newer) i (k + 1) (right_at newer node)) t.col (next_first (by_rows newer) lines head i node linked (t.live, t.row));
+      }
 
 pub across_end : (old new : List Node) (i : ℕ) (by : ℚ) (done w : ℕ) → IsAcross old new i by done None → done ≤ w → IsDividing old new i by w
 across_end old new i by done w h le = dividing_skip old new i by done h.row w le

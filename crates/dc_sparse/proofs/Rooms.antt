@@ -13,6 +13,6 @@ fill-gaps c r j h = (fills (cross_meaning c).table r j h).number
 pub has_room : HasRoom
 has_room c r j e h =
     let f = fill-gaps c r j h in
-    let g : gaps (cross_meaning c).table r j ≤ c.web.spare = c.room r j e in
-    let n = c.web.woven.count in
+    let g : gaps (cross_meaning c).table r j ≤ c.held.web.spare = c.room r j e in
+    let n = c.held.web.woven.count in
     omega arith

@@ -4,8 +4,6 @@ use Rattle.dc_math.specs.Rational.{ℚ}
 use Rattle.dc_lp.specs.Tables.{Table}
 use Rattle.dc_lp.specs.Meanings.{Meaning, ready_at}
 use Rattle.dc_lp.specs.Fill.{gaps}
-use Rattle.dc_sparse.specs.declared.web.Node.{Node}
-use Rattle.dc_sparse.specs.Entries.{KeepsAll}
 use Rattle.dc_sparse.specs.Pivots.{grid}
 use Rattle.dc_sparse.proofs.Tables.{grid-same}
 
@@ -14,8 +12,8 @@ pub same_gaps : (real : ℕ) (rows rows' : List (List ℚ)) (basis : List ℕ) (
 same_gaps real rows rows' basis r j e = ap (λ (rs : List (List ℚ)). let t : Table ℚ = record { real = real; rows = rs; basis = basis } in gaps t r j) e
 
 -- the same table in other sizes that are equal
-pub keeps_grid : (xs ys : List Node) (h h' w w' : ℕ) → h' ≡ h → w' ≡ w → KeepsAll xs ys → grid h' w' ys ≡ grid h w xs
-keeps_grid xs ys h h' w w' eh ew k = ap (λ z. grid z w' ys) eh ∙ ap (λ z. grid h z ys) ew ∙ grid-same h w xs ys k.entries
+pub keeps_grid : (e f : ℕ → ℕ → ℚ) (h h' w w' : ℕ) → h' ≡ h → w' ≡ w → ((i k : ℕ) → f i k ≡ e i k) → grid h' w' f ≡ grid h w e
+keeps_grid e f h h' w w' eh ew k = ap (λ z. grid z w' f) eh ∙ ap (λ z. grid h z f) ew ∙ grid-same h w e f (λ i j li lj. k i j)
 
 pub same_meaning : (loaded broken : Bool) (ready : Option (ℕ × ℕ)) (real : ℕ) (rows rows' : List (List ℚ)) (basis : List ℕ) → rows' ≡ rows
     → ◌≡◌ {A = Meaning} (record { loaded = loaded; broken = broken; ready = ready; table = record { real = real; rows = rows'; basis = basis } }) (record { loaded = loaded; broken = broken; ready = ready; table = record { real = real; rows = rows; basis = basis } })

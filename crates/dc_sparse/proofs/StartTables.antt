@@ -16,28 +16,28 @@ use Rattle.dc_lp.specs.Fill.{count_places, entry_count}
 use Rattle.dc_sparse.specs.Sizes.{held_count}
 use Rattle.dc_sparse.specs.Pivots.{grid}
 use Rattle.dc_start.specs.Starts.{columns, width, start_value}
-use Rattle.dc_sparse.specs.Fills.{IsFilled, IsFilling, IsPartOf}
+use Rattle.dc_sparse.specs.Fills.{IsFilled, IsFilling, IsPartOf, IsStarted}
 use Rattle.dc_sparse.proofs.Tables.{made-same}
 use Rattle.dc_sparse.proofs.Entries.{vacant-zero}
 use Rattle.dc_sparse.proofs.PlaceCounts.{count_places-least}
 
-grid-start : (p : Problem) (xs : List Node) → IsFilled p xs (p.rows + 2) 0 → grid (p.rows + 2) (width p) xs ≡ (start p).rows
+grid-start : (p : Problem) (e : ℕ → ℕ → ℚ) → IsStarted p e → grid (p.rows + 2) (width p) e ≡ (start p).rows
 unfolding grid tables.start
-grid-start p xs h = made-same (p.rows + 2) (λ i. made (width p) (λ k. entry_at xs i k)) (λ i. made (width p) (λ k. start_value p i k)) (λ i li. made-same (width p) (λ k. entry_at xs i k) (λ k. start_value p i k) (λ k lk. h.entries i k li (omega arith) lk))
+grid-start p e h = made-same (p.rows + 2) (λ i. made (width p) (λ k. e i k)) (λ i. made (width p) (λ k. start_value p i k)) (λ i li. made-same (width p) (λ k. e i k) (λ k. start_value p i k) (λ k lk. h i k li lk))
 
-loaded : (p : Problem) (xs : List Node) (bs : List ℕ) → IsFilled p xs (p.rows + 2) 0 → bs ≡ made p.rows (λ i. columns p + i)
-    → ◌≡◌ {A = Meaning} (record { loaded = true; broken = false; ready = None; table = record { real = columns p; rows = grid (p.rows + 2) (width p) xs; basis = bs } }) (resting (start p))
+loaded : (p : Problem) (e : ℕ → ℕ → ℚ) (bs : List ℕ) → IsStarted p e → bs ≡ made p.rows (λ i. columns p + i)
+    → ◌≡◌ {A = Meaning} (record { loaded = true; broken = false; ready = None; table = record { real = columns p; rows = grid (p.rows + 2) (width p) e; basis = bs } }) (resting (start p))
 unfolding tables.start
-loaded p xs bs h e =
+loaded p e bs h q =
     let M : List (List ℚ) → List ℕ → Meaning = λ rs ks. record { loaded = true; broken = false; ready = None; table = record { real = columns p; rows = rs; basis = ks } } in
-    ap (λ rs. M rs bs) (grid-start p xs h) ∙ ap (M (start p).rows) e
+    ap (λ rs. M rs bs) (grid-start p e h) ∙ ap (M (start p).rows) q
 
 -- the same in other words for the sizes
-pub loaded-in : (p : Problem) (n h w : ℕ) (xs : List Node) (bs : List ℕ) → n ≡ columns p → h ≡ p.rows + 2 → w ≡ width p → IsFilled p xs (p.rows + 2) 0 → bs ≡ made p.rows (λ i. n + i)
-    → ◌≡◌ {A = Meaning} (record { loaded = true; broken = false; ready = None; table = record { real = n; rows = grid h w xs; basis = bs } }) (resting (start p))
-loaded-in p n h w xs bs en eh ew f e =
-    let M : ℕ → ℕ → ℕ → Meaning = λ a b c. record { loaded = true; broken = false; ready = None; table = record { real = a; rows = grid b c xs; basis = bs } } in
-    ap (λ a. M a h w) en ∙ ap (λ b. M (columns p) b w) eh ∙ ap (λ c. M (columns p) (p.rows + 2) c) ew ∙ loaded p xs bs f (e ∙ ap (λ m. made p.rows (λ i. m + i)) en)
+pub loaded-in : (p : Problem) (n h w : ℕ) (e : ℕ → ℕ → ℚ) (bs : List ℕ) → n ≡ columns p → h ≡ p.rows + 2 → w ≡ width p → IsStarted p e → bs ≡ made p.rows (λ i. n + i)
+    → ◌≡◌ {A = Meaning} (record { loaded = true; broken = false; ready = None; table = record { real = n; rows = grid h w e; basis = bs } }) (resting (start p))
+loaded-in p n h w e bs en eh ew f q =
+    let M : ℕ → ℕ → ℕ → Meaning = λ a b c. record { loaded = true; broken = false; ready = None; table = record { real = a; rows = grid b c e; basis = bs } } in
+    ap (λ a. M a h w) en ∙ ap (λ b. M (columns p) b w) eh ∙ ap (λ c. M (columns p) (p.rows + 2) c) ew ∙ loaded p e bs f (q ∙ ap (λ m. made p.rows (λ i. m + i)) en)
 
 -- ---- what is held of the starting table, and how much
 

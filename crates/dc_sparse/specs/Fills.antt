@@ -4,6 +4,7 @@ use Rattle.dc_lp.specs.declared.Problem.{Problem}
 use Rattle.dc_sparse.specs.declared.web.Node.{Node}
 use Rattle.dc_sparse.specs.Entries.{entry_at, StandsAt}
 use Rattle.dc_math.specs.Tests.{is_zero}
+use Rattle.dc_math.specs.Rational.{ℚ}
 use Rattle.dc_start.specs.Starts.{width, start_value}
 
 -- each entry that isn't 0 is one of the starting table
@@ -20,3 +21,7 @@ pub record IsFilling (p : Problem) (xs : List Node) (height row col : ℕ) : Typ
   pub entries : (i k : ℕ) → i < height → col + 1 ≤ k → k < width p → entry_at xs i k ≡ start_value p i k
   pub part : (i : ℕ) → i < height → row ≤ i → entry_at xs i col ≡ start_value p i col
   pub none_else : (n i k : ℕ) → StandsAt xs n i k → (col < k) ⊎ ((k ≡ col) × (row ≤ i))
+
+-- a table is the starting table
+abbrev pub IsStarted : Problem → (ℕ → ℕ → ℚ) → Type 0
+IsStarted p e = (i k : ℕ) → i < p.rows + 2 → k < width p → e i k ≡ start_value p i k

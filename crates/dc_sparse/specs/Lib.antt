@@ -1,12 +1,14 @@
 pub mod Lines
 pub mod Nodes
 pub mod Webs
-pub mod Props
 pub mod Entries
+pub mod Scales
+pub mod Props
 pub mod Rows
 pub mod Pivots
 pub mod Shape
 pub mod Sizes
+pub mod Ratios
 pub mod Held
 pub mod Meanings
 pub mod Fills

@@ -10,15 +10,15 @@ cross_meaning c = record {
   loaded = c.loaded;
   broken = c.broken;
   ready = c.ready;
-  table = table_of c.columns c.basis.items c.web;
+  table = table_of c.columns c.basis.items c.held;
 }
 
 -- all nodes, those that are free, and those that are linked
 abbrev pub arena_of : Cross → ℕ
-arena_of c = length c.web.nodes.items
+arena_of c = length c.held.web.nodes.items
 
 abbrev pub spare_of : Cross → ℕ
-spare_of c = free_count c.web.nodes.items
+spare_of c = free_count c.held.web.nodes.items
 
 abbrev pub live_of : Cross → ℕ
 live_of c = arena_of c - spare_of c

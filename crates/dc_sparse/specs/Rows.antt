@@ -45,19 +45,35 @@ AreDivided old new i by n = (k : ℕ) → k < n → entry_at new i k ≡ entry_a
 
 -- ---- the other rows
 
+-- what must fit where its entry in column col times row `pivot` is taken from row i
+abbrev pub steps_fit : (ℕ → ℕ → ℚ) → ℕ → ℕ → ℕ → ℕ → Bool
+steps_fit e w pivot col i = all_below w (λ k. k == col || step_fits (e i col) (e pivot k) (e i k))
+
 -- what must fit in row i
-abbrev pub row_fits : List Node → ℕ → ℕ → ℕ → ℕ → Bool
-row_fits xs w pivot col i = i == pivot || is_zero (entry_at xs i col) || reductions_fit xs i pivot col (entry_at xs i col) w
+abbrev pub row_fits : (ℕ → ℕ → ℚ) → ℕ → ℕ → ℕ → ℕ → Bool
+row_fits e w pivot col i = i == pivot || is_zero (e i col) || steps_fit e w pivot col i
 
-unfoldable pub rows_fit : List Node → ℕ → ℕ → ℕ → ℕ → Bool
-rows_fit xs w pivot col n = all_below n (row_fits xs w pivot col)
+unfoldable pub rows_fit : (ℕ → ℕ → ℚ) → ℕ → ℕ → ℕ → ℕ → Bool
+rows_fit e w pivot col n = all_below n (row_fits e w pivot col)
 
--- what column k of row i becomes; row `pivot` stays, and so does a row with 0 in column col
-abbrev pub reduced_at : List Node → ℕ → ℕ → ℕ → ℕ → ℚ
-reduced_at xs pivot col i k = cond (i == pivot || is_zero (entry_at xs i col)) (entry_at xs i k) (entry_after xs i pivot col (entry_at xs i col) k)
+-- what column k of row i becomes where its entry in column col times row `pivot` is taken from it
+abbrev pub stepped_at : (ℕ → ℕ → ℚ) → ℕ → ℕ → ℕ → ℕ → ℚ
+stepped_at e pivot col i k = reduced_entry k col (e i col) (e pivot k) (e i k)
 
-abbrev pub RowsAreReduced : List Node → List Node → ℕ → ℕ → ℕ → ℕ → Type 0
-RowsAreReduced old new w pivot col n = (i : ℕ) → i < n → (k : ℕ) → k < w → entry_at new i k ≡ reduced_at old pivot col i k
+-- the same for all rows: row `pivot` stays, and so does a row with 0 in column col
+abbrev pub reduced_at : (ℕ → ℕ → ℚ) → ℕ → ℕ → ℕ → ℕ → ℚ
+reduced_at e pivot col i k = cond (i == pivot || is_zero (e i col)) (e i k) (stepped_at e pivot col i k)
+
+abbrev pub RowsAreReduced : (ℕ → ℕ → ℚ) → (ℕ → ℕ → ℚ) → ℕ → ℕ → ℕ → ℕ → Type 0
+RowsAreReduced old new w pivot col n = (i : ℕ) → i < n → (k : ℕ) → k < w → new i k ≡ reduced_at old pivot col i k
+
+-- in how many of the columns below w row `pivot` has an entry and row i has none
+abbrev pub gaps_in_row : (ℕ → ℕ → ℚ) → ℕ → ℕ → ℕ → ℕ
+gaps_in_row e i pivot w = count_below w (λ k. is_zero (e i k) && not (is_zero (e pivot k)))
+
+-- the same over rows 0 to n - 1 that have an entry in column col
+abbrev pub gaps_in_rows : (ℕ → ℕ → ℚ) → ℕ → ℕ → ℕ → ℕ → ℕ
+gaps_in_rows e w pivot col n = count_places n w (λ i k. is_zero (e i k) && not (is_zero (e i col)) && not (is_zero (e pivot k)))
 
 -- where rows 0 to n - 1 have an entry in column col, the columns below w in which row `pivot` has one and they have none
 unfoldable pub rows_gaps : List Node → ℕ → ℕ → ℕ → ℕ → ℕ

@@ -6,14 +6,15 @@ ghost use Rattle.dc_lp.specs.Fill.{gaps};
 ghost use Rattle.dc_sparse.specs.Held.{table_of};
 ghost use Rattle.dc_sparse.specs.Shape.{IsShaped};
 
-use crate::web::Web;
+use crate::scaled::Scaled;
 use dc_frac::Frac;
 use dc_lp::{PastPivot, PastQuotient, Problem, Tableau};
-use dc_start::{Candidate, better, start_basis};
+use dc_start::start_basis;
 use std::alloc::{AllocError, Global};
 
 /// A tableau of linked nodes, one for each entry that isn't 0. The nodes stand in an arena: a pivot passes along the rows that have
 /// an entry in its column, frees the nodes of entries that become 0 and takes free ones for those that come, and takes no memory.
+/// A row holds whole numbers over one denominator as long as all of them stay below 2^41, and else fractions.
 #[derive(Drop)]
 pub struct Cross {
     alloc: Global,
@@ -22,9 +23,9 @@ pub struct Cross {
     ready: Option<(usize, usize)>,
     columns: usize,
     basis: Vec<usize>,
-    web: Web,
-    ghost shape: { loaded ≡ true → IsShaped columns (vec_len basis) (length web.row_heads.items) (length web.col_heads.items) },
-    ghost room: { (r j : ℕ) → ready ≡ Some (r, j) → gaps (table_of columns basis.items web) r j ≤ web.spare },
+    held: Scaled,
+    ghost shape: { loaded ≡ true → IsShaped columns (vec_len basis) (length held.web.row_heads.items) (length held.web.col_heads.items) },
+    ghost room: { (r j : ℕ) → ready ≡ Some (r, j) → gaps (table_of columns basis.items held) r j ≤ held.web.spare },
 }
 
 impl Cross {
@@ -43,7 +44,7 @@ impl Cross {
             ready: None,
             columns: 0,
             basis: Vec::new(alloc),
-            web: Web::new(alloc),
+            held: Scaled::new(alloc),
         }
     }
 
@@ -51,7 +52,7 @@ impl Cross {
     pub fn spare(&self) -> usize
         ensures { result ≡ spare_of self.now }
     {
-        self.web.spare()
+        self.held.web.spare()
     }
 
     /// How many nodes are linked: one for each entry that isn't 0.
@@ -59,7 +60,7 @@ impl Cross {
         ensures nodes { result ≡ live_of self.now }
         ensures entries { (cross_meaning self.now).loaded ≡ true → result ≡ entry_count (cross_meaning self.now).table }
     {
-        self.web.live()
+        self.held.web.live()
     }
 
     /// Makes at least `count` nodes free, in an arena that grows by those that are missing. After a refusal all is as before.
@@ -69,7 +70,7 @@ impl Cross {
         ensures ok { OnOk result (spare_of self.new ≡ max (spare_of self.old) count) }
         ensures err { OnErr result (spare_of self.new ≡ spare_of self.old) }
     {
-        self.web.reserve(count)
+        self.held.reserve(count)
     }
 }
 
@@ -95,8 +96,8 @@ impl Tableau for Cross {
         let rows = p.rows;
         let columns = p.columns.len();
         let basis = start_basis(self.alloc, rows, columns)?;
-        self.web.reset(self.alloc, rows + 2, columns + rows + 1)?;
-        self.web.fill(p)?;
+        self.held.reset(self.alloc, rows + 2, columns + rows + 1)?;
+        self.held.fill(p)?;
         self.basis = basis;
         self.columns = columns;
         self.broken = false;
@@ -105,7 +106,7 @@ impl Tableau for Cross {
     }
 
     fn entry(&self, row: usize, col: usize) -> Frac {
-        self.web.entry(row, col)
+        self.held.entry(row, col)
     }
 
     fn basic(&self, row: usize) -> usize {
@@ -113,22 +114,11 @@ impl Tableau for Cross {
     }
 
     fn entering(&self, cost_row: usize) -> Option<usize> {
-        self.web.first_negative(cost_row, self.columns)
+        self.held.web.first_negative(cost_row, self.columns)
     }
 
     fn ratio_row(&self, col: usize) -> Result<Option<usize>, PastQuotient> {
-        let right = self.columns + self.basis.len();
-        let mut best: Option<Candidate> = None;
-        for row in 0..self.basis.len() {
-            let entry = self.entry(row, col);
-            if entry.is_positive() {
-                let Some(ratio) = self.entry(row, right).div(entry) else {
-                    return Err(PastQuotient);
-                };
-                best = Some(better(&self.basis, Candidate { row, ratio }, best));
-            }
-        }
-        Ok(best.map(|candidate| candidate.row))
+        self.held.web.ratio_row(self.columns, &self.basis, col)
     }
 
     /// Makes as many nodes free as the pivot fills places, in an arena that grows by those that are missing.
@@ -142,10 +132,10 @@ impl Tableau for Cross {
         ensures spare { OnOk result (spare_of self.new ≡ max (spare_of self.old) (fill (cross_meaning self.old).table row col)) }
         ensures kept { OnErr result (spare_of self.new ≡ spare_of self.old) }
     {
-        let Some(count) = self.web.gaps(row, col) else {
+        let Some(count) = self.held.web.gaps(row, col) else {
             return Err(AllocError);
         };
-        self.web.reserve(count)?;
+        self.held.reserve(count)?;
         self.ready = Some((row, col));
         Ok(())
     }
@@ -160,7 +150,7 @@ impl Tableau for Cross {
         ensures arena { arena_of self.new ≡ arena_of self.old }
     {
         self.ready = None;
-        if self.web.pivot(row, col) {
+        if self.held.pivot(row, col) {
             self.basis[row] = col;
             Ok(())
         } else {

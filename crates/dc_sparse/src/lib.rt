@@ -5,8 +5,12 @@ mod cross;
 mod fill;
 pub mod laws;
 mod memory;
+mod pivot;
+mod ratio;
 mod rows;
+mod scaled;
 mod web;
+mod whole;
 mod writes;
 
 pub use crate::cross::Cross;

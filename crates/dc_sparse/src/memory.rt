@@ -74,9 +74,11 @@ impl Web {
     {
         let row_heads = no_heads(alloc, height)?;
         let col_heads = no_heads(alloc, width)?;
+        let stops = no_heads(alloc, width)?;
         free_all(&mut self.nodes);
         self.row_heads = row_heads;
         self.col_heads = col_heads;
+        self.stops = stops;
         self.spare = self.nodes.len();
         self.free = top(self.nodes.len());
         Ok(())

@@ -6,10 +6,9 @@ ghost use Rattle.dc_math.specs.Tests.{is_zero};
 ghost use Rattle.dc_frac.specs.Value.{value, IsChecked};
 ghost use Rattle.dc_start.specs.Changes.{step_fits};
 ghost use Rattle.dc_sparse.specs.Lines.{IsLast};
-ghost use Rattle.dc_sparse.specs.Entries.{entry_at};
-ghost use Rattle.dc_sparse.specs.Pivots.{entries_fit, ArePivoted};
+ghost use Rattle.dc_sparse.specs.Entries.{entry_at, IsNodeAt, KeepsPlaces};
 ghost use Rattle.dc_sparse.specs.Rows.{IsFirstNegative, reductions_fit, reduced_entry, row_gaps, AreReduced, KeepsRows};
-ghost use Rattle.dc_sparse.specs.Rows.{divisions_fit, AreDivided, rows_gaps, rows_fit, RowsAreReduced};
+ghost use Rattle.dc_sparse.specs.Rows.{divisions_fit, AreDivided, rows_gaps};
 ghost use Rattle.dc_sparse.specs.Held.{nodes_of, node_count, height_of, width_of, rows_of};
 
 use crate::web::Web;
@@ -41,31 +40,15 @@ impl Web {
             let at = self.nodes[node].col;
             let by = self.nodes[node].value;
             left = self.left_of(row, at, left);
-            match self.entry_after(row, at, col, factor, by, left) {
-                Some(entry) => self.put(row, at, entry, left, None),
+            let found = self.node_at(row, at, left);
+            match self.entry_after(row, at, col, factor, by, found) {
+                Some(entry) => self.put(row, at, entry, left, found),
                 None => return false,
             }
             done = at + 1;
             source = self.nodes[node].right;
         }
         true
-    }
-
-    /// Makes the pivot at a place with an entry. Whether it fits; where it doesn't, the rows are left half done. It takes no memory.
-    pub(crate) fn pivot(&mut self, row: usize, col: usize) -> bool
-        requires row { row < height_of self.old }
-        requires col { col < width_of self.old }
-        requires entry { is_zero (entry_at (nodes_of self.old) row col) ≡ false }
-        requires spare { rows_gaps (nodes_of self.old) (width_of self.old) row col (height_of self.old) ≤ self.old.spare }
-        ensures fits { result ≡ entries_fit (nodes_of self.old) (width_of self.old) (height_of self.old) row col }
-        ensures pivoted { IsTrue result
-            → ArePivoted (nodes_of self.old) (nodes_of self.new) (width_of self.old) (height_of self.old) row col }
-        ensures arena { node_count self.new ≡ node_count self.old }
-        ensures height { height_of self.new ≡ height_of self.old }
-        ensures width { width_of self.new ≡ width_of self.old }
-    {
-        let by = self.entry(row, col);
-        self.divide_row(row, by) && self.reduce_rows(row, col)
     }
 
     /// Divides a row. Whether the quotients fit; where they don't, the row is left half done. It takes no memory.
@@ -75,6 +58,7 @@ impl Web {
         ensures fits { result ≡ divisions_fit (nodes_of self.old) row (value by) (width_of self.old) }
         ensures divided { IsTrue result → AreDivided (nodes_of self.old) (nodes_of self.new) row (value by) (width_of self.old) }
         ensures others { KeepsRows (nodes_of self.old) (nodes_of self.new) row }
+        ensures places { KeepsPlaces (nodes_of self.old) (nodes_of self.new) }
         ensures spare { self.new.spare ≡ self.old.spare }
         ensures arena { node_count self.new ≡ node_count self.old }
         ensures height { height_of self.new ≡ height_of self.old }
@@ -90,36 +74,6 @@ impl Web {
             }
             done = at + 1;
             next = self.nodes[node].right;
-        }
-        true
-    }
-
-    /// Reduces every row but `pivot` that has an entry in column `col`. Whether it fits; where it doesn't, the rows are left half done.
-    /// It takes no memory.
-    pub(crate) fn reduce_rows(&mut self, pivot: usize, col: usize) -> bool
-        requires pivot { pivot < height_of self.old }
-        requires col { col < width_of self.old }
-        requires entry { is_zero (entry_at (nodes_of self.old) pivot col) ≡ false }
-        requires spare { rows_gaps (nodes_of self.old) (width_of self.old) pivot col (height_of self.old) ≤ self.old.spare }
-        ensures fits { result ≡ rows_fit (nodes_of self.old) (width_of self.old) pivot col (height_of self.old) }
-        ensures reduced { IsTrue result
-            → RowsAreReduced (nodes_of self.old) (nodes_of self.new) (width_of self.old) pivot col (height_of self.old) }
-        ensures arena { node_count self.new ≡ node_count self.old }
-        ensures height { height_of self.new ≡ height_of self.old }
-        ensures width { width_of self.new ≡ width_of self.old }
-    {
-        let mut done = 0;
-        let mut next = self.down_of(col, None);
-        while let Some(node) = next {
-            let row = self.nodes[node].row;
-            let factor = self.nodes[node].value;
-            next = self.nodes[node].down;
-            if row != pivot {
-                if !self.reduce_row(row, pivot, col, factor) {
-                    return false;
-                }
-            }
-            done = row + 1;
         }
         true
     }
@@ -197,7 +151,7 @@ impl Web {
         Some(count)
     }
 
-    /// What the entry in a column of a row becomes, where the pivot's row has `by` there.
+    /// What the entry in a column of a row becomes, whose node is `found`, where the pivot's row has `by` there.
     fn entry_after(
         &self,
         row: usize,
@@ -205,10 +159,9 @@ impl Web {
         col: usize,
         factor: Frac,
         by: Frac,
-        left: Option<usize>,
+        found: Option<usize>,
     ) -> Option<Frac>
-        requires row { row < height_of self.now }
-        requires left { IsLast (rows_of self.now) row at left }
+        requires found { IsNodeAt (nodes_of self.now) row at found }
         ensures { let old = entry_at (nodes_of self.now) row at in
             IsChecked result (at == col || step_fits (value factor) (value by) old)
             (reduced_entry at col (value factor) (value by) old) }
@@ -216,7 +169,7 @@ impl Web {
         if at == col {
             return Some(Frac::whole(0));
         }
-        match self.node_at(row, at, left) {
+        match found {
             Some(node) => step(self.nodes[node].value, factor, by),
             None => step(Frac::whole(0), factor, by),
         }

@@ -1,9 +1,9 @@
 //! Nodes of an arena, linked in rows and in columns. Those that hold nothing stand in a list of their own.
 #![tactic(auto)]
 
-ghost use Rattle.std.specs.Prelude.{◌≡◌, ℕ, ◌<◌, [], None};
+ghost use Rattle.std.specs.Prelude.{◌≡◌, ℕ, ◌<◌, length, [], None, IsTrue};
 ghost use Rattle.dc_frac.specs.Value.{value};
-ghost use Rattle.dc_sparse.specs.Lines.{IsFirst, IsLast, IsStop, StandsBefore, place_after};
+ghost use Rattle.dc_sparse.specs.Lines.{IsBefore, IsFirst, IsLast, IsStop, StandsBefore, place_after};
 ghost use Rattle.dc_sparse.specs.Webs.{free_count, IsWoven};
 ghost use Rattle.dc_sparse.specs.Entries.{entry_at, IsNodeAt};
 ghost use Rattle.dc_sparse.specs.Sizes.{held_count, live_count};
@@ -24,13 +24,16 @@ pub(crate) struct Node {
 }
 
 /// Nodes, and which of them begin the rows, the columns and the list of free nodes. `spare` counts the free ones.
+/// Each column has a stop, from which a node is sought if it stands before it there.
 #[derive(Drop)]
 pub(crate) struct Web {
     pub nodes: Vec<Node>,
     pub row_heads: Vec<Option<usize>>,
     pub col_heads: Vec<Option<usize>>,
+    pub stops: Vec<Option<usize>>,
     pub free: Option<usize>,
     pub spare: usize,
+    pub ghost stopped: { length stops.items ≡ length col_heads.items },
     pub ghost woven: { IsWoven nodes.items row_heads.items col_heads.items free spare } by { IsWoven_prop nodes.items row_heads.items col_heads.items free spare },
 }
 
@@ -48,6 +51,7 @@ impl Web {
             nodes: Vec::new(alloc),
             row_heads: Vec::new(alloc),
             col_heads: Vec::new(alloc),
+            stops: Vec::new(alloc),
             free: None,
             spare: 0,
         }
@@ -126,6 +130,37 @@ impl Web {
             next = self.nodes[node].down;
         }
         above
+    }
+
+    /// The stop of a column, where it stands there before a row.
+    pub(crate) fn stop_before(&self, col: usize, row: usize) -> Option<usize>
+        requires col { col < width_of self.now }
+        ensures { StandsBefore (columns_of self.now) col row result }
+    {
+        let stop = self.stops[col]?;
+        if stop >= self.nodes.len() {
+            return None;
+        }
+        if self.stands_before(stop, col, row) {
+            Some(stop)
+        } else {
+            None
+        }
+    }
+
+    /// Whether a node of the arena stands in a column before a row.
+    fn stands_before(&self, node: usize, col: usize, row: usize) -> bool
+        requires { node < node_count self.now }
+        ensures { IsTrue result → IsBefore (columns_of self.now) col row node }
+    {
+        let node = &self.nodes[node];
+        if node.col != col {
+            return false;
+        }
+        if node.row >= row {
+            return false;
+        }
+        !node.value.is_zero()
     }
 
     /// The node at a place, which stands behind `left` in its row.

@@ -4,10 +4,10 @@
 ghost use Rattle.std.specs.Prelude.{◌≡◌, ℕ, ◌+◌, ◌<◌, ◌≤◌, length, OnOk, OnErr, None, true, false};
 ghost use Rattle.dc_math.specs.Tests.{is_zero};
 ghost use Rattle.dc_frac.specs.Value.{value};
-ghost use Rattle.dc_sparse.specs.Lines.{IsLast, StandsBefore};
+ghost use Rattle.dc_sparse.specs.Lines.{IsLast};
 ghost use Rattle.dc_sparse.specs.Nodes.{row_at, col_at, is_live, IsIn, IsRelinkedRight, IsRelinkedDown, AreReheaded};
 ghost use Rattle.dc_sparse.specs.Webs.{IsVacant, IsPlaced, IsCleared};
-ghost use Rattle.dc_sparse.specs.Entries.{entry_at, StandsAt, IsPut, takes};
+ghost use Rattle.dc_sparse.specs.Entries.{entry_at, StandsAt, IsNodeAt, IsPut, takes};
 ghost use Rattle.dc_sparse.specs.Sizes.{HasGrown};
 ghost use Rattle.dc_sparse.specs.Held.{nodes_of, node_count, height_of, width_of, rows_of, columns_of};
 
@@ -16,12 +16,11 @@ use dc_frac::Frac;
 use std::alloc::AllocError;
 
 impl Web {
-    /// Holds an entry at a place that has none, nor any before it in its row or above it in its column.
+    /// Holds an entry at a place that has none, nor any before it in its row.
     pub(crate) fn hold(&mut self, row: usize, col: usize, entry: Frac) -> Result<(), AllocError>
         requires row { row < height_of self.old }
         requires col { col < width_of self.old }
         requires left { IsLast (rows_of self.old) row col None }
-        requires above { IsLast (columns_of self.old) col row None }
         requires vacant { IsVacant (nodes_of self.old) row col }
         ensures ok { OnOk result (IsPut (nodes_of self.old) (nodes_of self.new) row col (value entry)) }
         ensures err { OnErr result (nodes_of self.new ≡ nodes_of self.old) }
@@ -36,19 +35,19 @@ impl Web {
         Ok(())
     }
 
-    /// Makes `entry` the entry at a place, which stands behind `left` in its row, and in its column somewhere behind `from`.
+    /// Makes `entry` the entry at a place, whose node is `found` and which stands behind `left` in its row. The column's stop moves there.
     pub(crate) fn put(
         &mut self,
         row: usize,
         col: usize,
         entry: Frac,
         left: Option<usize>,
-        from: Option<usize>,
+        found: Option<usize>,
     )
         requires row { row < height_of self.old }
         requires col { col < width_of self.old }
         requires left { IsLast (rows_of self.old) row col left }
-        requires from { StandsBefore (columns_of self.old) col row from }
+        requires found { IsNodeAt (nodes_of self.old) row col found }
         requires spare { takes (entry_at (nodes_of self.old) row col) (value entry) ≤ self.old.spare }
         ensures entry { IsPut (nodes_of self.old) (nodes_of self.new) row col (value entry) }
         ensures spare { self.new.spare + takes (entry_at (nodes_of self.old) row col) (value entry)
@@ -57,20 +56,48 @@ impl Web {
         ensures height { height_of self.new ≡ height_of self.old }
         ensures width { width_of self.new ≡ width_of self.old }
     {
-        match self.node_at(row, col, left) {
+        let stop = self.write(row, col, entry, left, found);
+        self.stops[col] = stop;
+    }
+
+    /// The same. Gives the node there, and the one above it where there is none any more.
+    fn write(
+        &mut self,
+        row: usize,
+        col: usize,
+        entry: Frac,
+        left: Option<usize>,
+        found: Option<usize>,
+    ) -> Option<usize>
+        requires row { row < height_of self.old }
+        requires col { col < width_of self.old }
+        requires left { IsLast (rows_of self.old) row col left }
+        requires found { IsNodeAt (nodes_of self.old) row col found }
+        requires spare { takes (entry_at (nodes_of self.old) row col) (value entry) ≤ self.old.spare }
+        ensures entry { IsPut (nodes_of self.old) (nodes_of self.new) row col (value entry) }
+        ensures spare { self.new.spare + takes (entry_at (nodes_of self.old) row col) (value entry)
+            ≡ self.old.spare + takes (value entry) (entry_at (nodes_of self.old) row col) }
+        ensures arena { node_count self.new ≡ node_count self.old }
+        ensures height { height_of self.new ≡ height_of self.old }
+        ensures width { width_of self.new ≡ width_of self.old }
+    {
+        match found {
             Some(node) => {
                 if entry.is_zero() {
-                    let above = self.above_of(col, row, from);
+                    let above = self.above_of(col, row, self.stop_before(col, row));
                     self.remove(node, left, above);
+                    above
                 } else {
                     self.set(node, entry);
+                    Some(node)
                 }
             }
             None => {
-                if !entry.is_zero() {
-                    let above = self.above_of(col, row, from);
-                    let _node = self.insert(row, col, entry, left, above);
+                if entry.is_zero() {
+                    return None;
                 }
+                let above = self.above_of(col, row, self.stop_before(col, row));
+                Some(self.insert(row, col, entry, left, above))
             }
         }
     }

@@ -118,7 +118,7 @@ loop-next-preserved c =
     let r : v ≡ item w.nodes.items n /ℚ value c.args.by = c.in-Some-div.ensures.1 ∙ ap (λ x. x /ℚ value c.args.by) ev in
     let right : c.index-in-Some-2.result.now.right ≡ right_at newer.nodes.items n = right-read newer.nodes.items n c.index-in-Some-2.result.now (item_live newer.nodes.items n t.live) c.index-in-Some-2.ensures in
     record {
-      across = rw (e, right) (across_step c.args.self.now.nodes.items w.nodes.items c.args.row (value c.args.by) c.loop-next.done n a w.woven.apart inside newer.nodes.items v (length newer.row_heads.items) (head_at newer.row_heads.items) f r p t newer.woven.rows);
+      across = rw (e, right) (across_step c.args.self.now.nodes.items w.nodes.items c.args.row (value c.args.by) c.loop-next.done n a w.woven.apart inside newer.nodes.items v (length newer.row_heads.items) (head_at newer.row_heads.items) f r p c.set.ensures.stays newer.woven.apart newer.woven.rows);
       spare = c.set.ensures.spare ∙ c.loop-next.invariant.spare;
       arena = c.set.ensures.arena ∙ c.loop-next.invariant.arena;
       height = c.set.ensures.height ∙ c.loop-next.invariant.height;
@@ -139,3 +139,9 @@ returns-clause-divided c =
     let a : IsAcross c.args.self.now.nodes.items w.nodes.items c.args.row (value c.args.by) c.loop-next.done None = rw c.in_default.is at c.loop-next.invariant.across in
     let r = across_end c.args.self.now.nodes.items w.nodes.items c.args.row (value c.args.by) c.loop-next.done (length c.args.self.now.col_heads.items) a c.loop-next.invariant.within in
     λ _. r.divided
+
+pub returns-in-None-clause-places : goal.returns-in-None-clause-places
+returns-in-None-clause-places c = c.loop-next.invariant.across.row.places
+
+pub returns-clause-places : goal.returns-clause-places
+returns-clause-places c = c.loop-next.invariant.across.row.places

@@ -1,4 +1,4 @@
-use Rattle.std.proofs.Common.{◌≡◌, length, set, arith, Some}
+use Rattle.std.proofs.Common.{◌≡◌, ◌∙◌, sym, length, set, arith, Some}
 use Rattle.dc_sparse.specs.declared.web.Node.{Node}
 use Rattle.dc_sparse.specs.Nodes.{by_rows, by_columns, right_at}
 use Rattle.dc_sparse.specs.Webs.{IsWoven}
@@ -33,6 +33,7 @@ invariant_of-self c =
     let wr : IsWritten w.nodes.items (set w.nodes.items n x) n x = written w.nodes.items n x t.unused.top.0.inside in
     let e : c.index.result.now.right ≡ right_at w.nodes.items n = right-read w.nodes.items n c.index.result.now t.unused.top.0.inside c.index.ensures in
     record {
+      stopped = w.stopped ∙ sym c.link_down.ensures.heads.long;
       woven = rw e (woven_more w.nodes.items (set w.nodes.items n x) c.link_right.new.nodes.items c.link_down.new.nodes.items w.row_heads.items c.link_right.new.heads.items w.col_heads.items c.link_down.new.heads.items w.spare n x c.args.left c.args.above
           t c.requires.row c.requires.col c.requires.nonzero c.requires.vacant c.requires.left c.requires.above (last_first (by_rows w.nodes.items) c.args.row c.args.col c.args.left c.right_of-right.result c.requires.left c.right_of-right.ensures) (last_first (by_columns w.nodes.items) c.args.col c.args.row c.args.above c.down_of-down.result c.requires.above c.down_of-down.ensures) wr c.link_right.ensures.nodes c.link_down.ensures.nodes c.link_right.ensures.heads c.link_down.ensures.heads);
     }

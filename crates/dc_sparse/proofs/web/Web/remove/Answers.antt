@@ -1,4 +1,4 @@
-use Rattle.std.proofs.Common.{◌≡◌, length, set, arith, None, refl, subst}
+use Rattle.std.proofs.Common.{◌≡◌, ◌∙◌, sym, length, set, arith, None, refl, subst}
 use Rattle.dc_frac.specs.declared.Frac.{Frac}
 use Rattle.dc_sparse.specs.declared.web.Node.{Node}
 use Rattle.dc_sparse.specs.declared.web.Web.{Web}
@@ -62,6 +62,7 @@ invariant_of-self c =
     let er = right-read w.nodes.items n c.index-gone.result.now l c.index-gone.ensures in
     let ed = down-read w.nodes.items n c.index-gone.result.now l c.index-gone.ensures in
     record {
+      stopped = w.stopped ∙ sym c.link_down.ensures.heads.long;
       woven = woven_less w.nodes.items (set w.nodes.items n x) c.link_right.new.nodes.items c.link_down.new.nodes.items w.row_heads.items c.link_right.new.heads.items w.col_heads.items c.link_down.new.heads.items w.free w.spare n x c.args.left c.args.above
           w.woven c.requires.node c.whole.ensures refl refl c.requires.left c.requires.above wr
           (subst (λ o. IsRelinkedRight (set w.nodes.items n x) c.link_right.new.nodes.items c.args.left o) er c.link_right.ensures.nodes)

@@ -12,6 +12,7 @@ invariant_of-self c =
     let w = c.args.self.now in
     let l = item_live w.nodes.items c.args.node c.requires.node in
     record {
+      stopped = w.stopped;
       woven = woven_same w.nodes.items _ w.row_heads.items w.col_heads.items w.free w.spare c.args.node (value c.args.entry) w.woven c.requires.node c.requires.nonzero
           (revalued w.nodes.items c.args.node c.index_mut.result.now c.args.entry l c.index_mut.ensures.value);
     }
