@@ -45,7 +45,7 @@ fn stops(
     Ok(())
 }
 
-// Pivot 2: a quotient by 2^126 doesn't fit. The row of small whole numbers above it was left by pivot 1.
+// Pivot 2: a quotient by 2^126, which is judged after that of a whole row.
 #[test]
 fn quotient_behind_whole_rows(rt: HostRuntime) -> Result<(), Fail> {
     let columns: [&[Entry]; 3] = [
@@ -241,4 +241,24 @@ fn difference_of_grown_rows(rt: HostRuntime) -> Result<(), Fail> {
     ];
     let p = problem(rt.alloc(), &columns, &[1, 0, 2_097_152, 0], &[0, -1])?;
     breaks(&rt, rt.alloc(), &p, &[(0, 0, 19)], 1, 1)
+}
+
+// Pivot 2: a negative pivot of drive-out, at 2 - 2^127, of which a product with a whole row doesn't fit.
+#[test]
+fn negative_pivot_past_product(rt: HostRuntime) -> Result<(), Fail> {
+    let columns: [&[Entry]; 3] = [
+        &[at(0, 1 - MOST), at(1, 1)],
+        &[at(1, 3)],
+        &[at(0, -1), at(1, 1)],
+    ];
+    let p = problem(rt.alloc(), &columns, &[0, 1], &[0, 1, 0])?;
+    breaks(&rt, rt.alloc(), &p, &[(1, 1, 15)], 0, 0)
+}
+
+// Pivot 2: the same at 1 - 2^127, where a difference in the whole cost row of phase two doesn't fit.
+#[test]
+fn negative_pivot_past_difference(rt: HostRuntime) -> Result<(), Fail> {
+    let columns: [&[Entry]; 3] = [&[at(0, -MOST)], &[at(0, -2), at(1, 2)], &[at(1, 3)]];
+    let p = problem(rt.alloc(), &columns, &[0, 1], &[1, 0, -1])?;
+    breaks(&rt, rt.alloc(), &p, &[(1, 2, 14)], 0, 0)
 }
