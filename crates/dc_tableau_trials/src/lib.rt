@@ -6,7 +6,11 @@
 #[cfg(test)]
 mod ended;
 #[cfg(test)]
+mod growth;
+#[cfg(test)]
 mod nodes;
+#[cfg(test)]
+mod refusals;
 #[cfg(test)]
 mod runs;
 #[cfg(test)]

@@ -8,9 +8,9 @@ use std::alloc::{AllocError, Global};
 use std::process::Abort;
 use std::test::Fail;
 
-// How a run ends: the solution, the multipliers or the ray, and the value, with the number of pivots.
+/// How a run ends: the solution, the multipliers or the ray, and the value, with the number of pivots.
 #[derive(Drop)]
-enum End<'a> {
+pub(crate) enum End<'a> {
     Best(&'a [Frac], &'a [Frac], Frac, u64),
     None(&'a [Frac], u64),
     NoBound(&'a [Frac], &'a [Frac], u64),
@@ -43,8 +43,8 @@ fn is(found: &Result<Outcome, SolveFault>, end: &End) -> bool {
     }
 }
 
-// Whether the run ends so on each of the two.
-fn ends(rt: &impl Abort, alloc: Global, p: &Problem, budget: u64, end: &End) -> bool {
+/// Whether the run ends so on each of the two.
+pub(crate) fn ends(rt: &impl Abort, alloc: Global, p: &Problem, budget: u64, end: &End) -> bool {
     assert!(rt; p.is_well_formed());
     let dense = solve(alloc, p, &mut Dense::new(alloc), budget);
     let cross = solve(alloc, p, &mut Cross::new(alloc), budget);

@@ -108,25 +108,112 @@ fn step<S: Tableau>(
     Ok(())
 }
 
-// A problem, and for each pivot by Bland's rule its place and how many nodes are linked after it.
-fn walk<S: Tableau>(
+/// Loads a problem into both tableaux and makes pivots: for each by Bland's rule its place and how many nodes are linked after it.
+pub(crate) fn go<S: Tableau>(
+    rt: &impl Abort,
+    dense: &mut S,
+    cross: &mut Cross,
+    p: &Problem,
+    places: &[(usize, usize, usize)],
+) -> Result<(), Fail>
+    requires well_formed { IsWellFormed p.now }
+    requires small { p.now.rows + columns_of p.now + 2 < 2 ^ 64 }
+    ensures first { OnOk result (IsOver (S.meaning dense.new) p.now.rows (columns_of p.now)) }
+    ensures second { OnOk result (IsOver (cross_meaning cross.new) p.now.rows (columns_of p.now)) }
+{
+    let [rows, columns] = [p.rows, p.columns.len()];
+    load(dense, p)?;
+    load(cross, p)?;
+    assert!(rt; agree(dense, cross, rows, columns));
+    for place in places {
+        step(rt, dense, cross, rows, columns, place)?;
+    }
+    Ok(())
+}
+
+/// The same on two new tableaux.
+pub(crate) fn walk<S: Tableau>(
     rt: &impl Abort,
     alloc: Global,
     dense: &mut S,
     p: &Problem,
     places: &[(usize, usize, usize)],
 ) -> Result<(), Fail> {
+    assert!(rt; p.is_well_formed());
+    assert!(rt; p.rows < 1000);
+    assert!(rt; p.columns.len() < 1000);
+    let mut cross = Cross::new(alloc);
+    go(rt, dense, &mut cross, p, places)
+}
+
+// Whether a value of the pivot at a place doesn't fit.
+fn breaks<T: Tableau>(
+    rt: &impl Abort,
+    tableau: &mut T,
+    rows: usize,
+    columns: usize,
+    row: usize,
+    col: usize,
+) -> Result<bool, Fail>
+    requires { IsOver (T.meaning tableau.old) rows columns }
+{
+    make_room(rt, tableau, rows, columns, row, col)?;
+    Ok(tableau.pivot(row, col).is_err())
+}
+
+// Whether a quotient of right side by entry in a column doesn't fit.
+fn has_no_ratio<T: Tableau>(
+    rt: &impl Abort,
+    tableau: &T,
+    rows: usize,
+    columns: usize,
+    col: usize,
+) -> bool
+    requires over { IsOver (T.meaning tableau.now) rows columns }
+    requires small { rows + columns + 2 < 2 ^ 64 }
+{
+    assert!(rt; col < columns);
+    tableau.ratio_row(col).is_err()
+}
+
+/// Pivots are made up to one at a place, which breaks both tableaux; then both are loaded again.
+pub(crate) fn break_at<S: Tableau>(
+    rt: &impl Abort,
+    alloc: Global,
+    dense: &mut S,
+    p: &Problem,
+    places: &[(usize, usize, usize)],
+    row: usize,
+    col: usize,
+) -> Result<(), Fail> {
     let [rows, columns] = [p.rows, p.columns.len()];
     assert!(rt; p.is_well_formed());
     assert!(rt; rows < 1000);
     assert!(rt; columns < 1000);
     let mut cross = Cross::new(alloc);
-    load(dense, p)?;
-    load(&mut cross, p)?;
-    assert!(rt; agree(dense, &cross, rows, columns));
-    for place in places {
-        step(rt, dense, &mut cross, rows, columns, place)?;
-    }
+    go(rt, dense, &mut cross, p, places)?;
+    assert!(rt; breaks(rt, dense, rows, columns, row, col)?);
+    assert!(rt; breaks(rt, &mut cross, rows, columns, row, col)?);
+    go(rt, dense, &mut cross, p, places)
+}
+
+/// Pivots are made until a column is to enter where both tableaux have no ratio row, since a quotient doesn't fit.
+pub(crate) fn stop_at<S: Tableau>(
+    rt: &impl Abort,
+    alloc: Global,
+    dense: &mut S,
+    p: &Problem,
+    places: &[(usize, usize, usize)],
+    col: usize,
+) -> Result<(), Fail> {
+    let [rows, columns] = [p.rows, p.columns.len()];
+    assert!(rt; p.is_well_formed());
+    assert!(rt; rows < 1000);
+    assert!(rt; columns < 1000);
+    let mut cross = Cross::new(alloc);
+    go(rt, dense, &mut cross, p, places)?;
+    assert!(rt; has_no_ratio(rt, dense, rows, columns, col));
+    assert!(rt; has_no_ratio(rt, &cross, rows, columns, col));
     Ok(())
 }
 

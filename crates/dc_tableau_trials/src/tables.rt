@@ -2,6 +2,15 @@
 use dc_lp::{Entry, Problem};
 use std::alloc::{AllocError, Global};
 
+/// 2^127 - 1, the most that fits.
+pub(crate) const MOST: i128 = 170_141_183_460_469_231_731_687_303_715_884_105_727;
+
+/// 2^126.
+pub(crate) const HALF: i128 = 85_070_591_730_234_615_865_843_651_857_942_052_864;
+
+/// 2^63.
+pub(crate) const LONG: i128 = 9_223_372_036_854_775_808;
+
 /// A number in a row.
 pub(crate) const fn at(row: usize, value: i128) -> Entry {
     Entry { row, value }

@@ -1,6 +1,6 @@
 use Rattle.dc_sparse.specs.Meanings.{cross_meaning}
 use Rattle.dc_tableau_trials.specs.Sizes.{IsOver}
-use Rattle.dc_tableau_trials.proofs.steps.walk.Given as goal
+use Rattle.dc_tableau_trials.proofs.steps.go.Given as goal
 
 abbrev pub invariant-loop-place : goal.invariant-loop-place
 invariant-loop-place g l = record {
