@@ -3,7 +3,7 @@ use Rattle.std.proofs.Common.{◌≡◌, ℕ, ◌+◌, ◌<◌, false, length, r
 use Rattle.dc_lp.specs.declared.Problem.{Problem}
 use Rattle.dc_lp.specs.Problems.{linear_of}
 use Rattle.dc_math.specs.Tests as tests
-use Rattle.dc_lp.specs.Meanings.{Meaning, IsPlace, IsPivotPlace, at, resting, ready_at, start, pivoted}
+use Rattle.dc_lp.specs.Meanings.{Meaning, IsPlace, IsPivotPlace, at, width, resting, ready_at, start, pivoted}
 use Rattle.dc_lp.proofs.FieldTests.{zero_test}
 use Rattle.dc_simplex.proofs.Steps.{start-basis, start-real, pivoted-basis, pivoted-real}
 use Rattle.dc_tableau_trials.specs.Sizes.{IsOver, IsReadyAt}
@@ -32,7 +32,10 @@ over_pivoted x y m n r j h e = rw e (record {
 pub place_over : (x : Meaning) (m n i k : ℕ) → IsOver x m n → i < m + 2 → k < m + n + 1 → IsPlace x.table i k
 place_over x m n i k h a b = (let r = h.rows in let c = h.columns in record { row = omega arith; column = omega arith })
 
+pub column_over : (x : Meaning) (m n k : ℕ) → IsOver x m n → k < n → k < width x.table
+column_over x m n k h a = (let r = h.rows in let c = h.columns in omega arith)
+
 pub pivot_place : (x : Meaning) (m n r j : ℕ) → IsOver x m n → r < m → j < n → tests.is_zero (at x.table r j) ≡ false → IsPivotPlace x.table r j
 pivot_place x m n r j h a b z = (let w = h.rows in let c = h.columns in record { row = omega arith; column = omega arith; nonzero = zero_test (at x.table r j) ∙ z })
 
-pub ruleset sizes = (over_start, place_over)
+pub ruleset sizes = (over_start, place_over, column_over)
