@@ -84,3 +84,6 @@ module _ (xs : List Node) (w pivot col count done node : ℕ) (h : AreCounted xs
 
 pub counted_end : (xs : List Node) (w pivot col count done height : ℕ) → AreCounted xs w pivot col count done None → done ≤ height → count ≡ rows_gaps xs w pivot col height
 counted_end xs w pivot col count done height h le = h.counted ∙ sym (counted_skip xs w pivot col done height None h.next le (λ c e. absurd (let r : ⊥ = cc in r)))
+
+pub counted_so_far : (xs : List Node) (w pivot col count done : ℕ) (to : Option ℕ) → AreCounted xs w pivot col count done to → AreCounted xs w pivot col (rows_gaps xs w pivot col done) done to
+counted_so_far xs w pivot col count done to h = record { counted = refl; next = h.next }
