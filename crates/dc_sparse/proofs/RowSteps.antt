@@ -308,15 +308,34 @@ pub entries_end : (xs : List Node) (i done w : ℕ) → IsFirst (by_rows xs) i d
 entries_end xs i done w f le = sym (entries_skip xs i done w None f le (λ c e. absurd (let r : ⊥ = cc in r)))
 
 -- where the pivot's row has no entry there is no gap
-pub row_gaps-entries : (xs : List Node) (i pivot w : ℕ) → row_gaps xs i pivot w ≤ entries_in (entry_at xs pivot) w
+gap_less : (a b : Bool) → cond (a && b) 1 0 ≤ cond b 1 0
+gap_less true b = omega arith
+gap_less false true = omega arith
+gap_less false false = omega arith
+
+row_gaps-entries : (xs : List Node) (i pivot w : ℕ) → row_gaps xs i pivot w ≤ entries_in (entry_at xs pivot) w
 unfolding row_gaps entries_in
 row_gaps-entries xs i pivot zero = omega arith
-row_gaps-entries xs i pivot (suc n) = (let r = row_gaps-entries xs i pivot n in let c = less (is_zero (entry_at xs i n)) (not (is_zero (entry_at xs pivot n))) in omega arith)
-  where
-    less : (a b : Bool) → cond (a && b) 1 0 ≤ cond b 1 0
-    less true b = omega arith
-    less false true = omega arith
-    less false false = omega arith
+row_gaps-entries xs i pivot (suc n) = (let r = row_gaps-entries xs i pivot n in let c = gap_less (is_zero (entry_at xs i n)) (not (is_zero (entry_at xs pivot n))) in omega arith)
+
+-- nor is there one in a column in which both rows have an entry
+pub row_gaps-less : (xs : List Node) (i pivot col w : ℕ) → col < w → is_zero (entry_at xs i col) ≡ false → is_zero (entry_at xs pivot col) ≡ false → row_gaps xs i pivot w + 1 ≤ entries_in (entry_at xs pivot) w
+unfolding row_gaps entries_in
+row_gaps-less xs i pivot col zero lt e h = absurd (omega arith)
+row_gaps-less xs i pivot col (suc n) lt e h = elim (cases_Bool (n == col)) [
+  | inl q ↦
+      (let same : n ≡ col = eqb-true n col q in
+      let r = row_gaps-entries xs i pivot n in
+      let p : cond {A = ℕ} (is_zero (entry_at xs i n) && not (is_zero (entry_at xs pivot n))) 1 0 ≡ 0 =
+      ap (λ x. cond {A = ℕ} (is_zero (entry_at xs i x) && not (is_zero (entry_at xs pivot x))) 1 0) same ∙ ap (λ b. cond {A = ℕ} (b && not (is_zero (entry_at xs pivot col))) 1 0) e in
+      let t : cond {A = ℕ} (not (is_zero (entry_at xs pivot n))) 1 0 ≡ 1 = ap (λ x. cond {A = ℕ} (not (is_zero (entry_at xs pivot x))) 1 0) same ∙ ap (λ b. cond {A = ℕ} (not b) 1 0) h in
+      omega arith)
+  | inr q ↦
+      (let ne : n ≢ col = eqb-false n col q in
+      let r = row_gaps-less xs i pivot col n (omega arith) e h in
+      let c = gap_less (is_zero (entry_at xs i n)) (not (is_zero (entry_at xs pivot n))) in
+      omega arith)
+]
 
 -- ---- no negative entry so far
 

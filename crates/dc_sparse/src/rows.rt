@@ -185,6 +185,7 @@ impl Web {
     pub(crate) fn need(&self, pivot: usize, col: usize) -> Option<usize>
         requires pivot { pivot < height_of self.now }
         requires col { col < width_of self.now }
+        requires entry { is_zero (entry_at (nodes_of self.now) pivot col) ≡ false }
         ensures { IfSome result (λ n. max self.now.spare n
             ≡ max self.now.spare (rows_gaps (nodes_of self.now) (width_of self.now) pivot col
             (height_of self.now))) }
@@ -195,15 +196,18 @@ impl Web {
         self.gaps(pivot, col)
     }
 
-    /// Whether the free nodes suffice even if the pivot at a place fills the pivot's row in every row that has an entry in its column.
+    /// Whether the free nodes suffice for the pivot at a place even if no other row that has an entry in its column has one in the other
+    /// columns of the pivot's row.
     fn suffices(&self, pivot: usize, col: usize) -> bool
         requires pivot { pivot < height_of self.now }
         requires col { col < width_of self.now }
+        requires entry { is_zero (entry_at (nodes_of self.now) pivot col) ≡ false }
         ensures { IsTrue result
             → rows_gaps (nodes_of self.now) (width_of self.now) pivot col (height_of self.now)
             ≤ self.now.spare }
     {
-        let across = self.row_length(pivot);
+        let length = self.row_length(pivot);
+        let across = length - 1;
         let mut left = self.spare;
         let mut done = 0;
         let mut next = self.down_of(col, None);

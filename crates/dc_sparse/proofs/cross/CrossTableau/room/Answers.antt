@@ -3,7 +3,7 @@ use Rattle.dc_lp.specs.Fill.{gaps, fill}
 use Rattle.dc_sparse.specs.Held.{table_of, held_at}
 use Rattle.dc_sparse.specs.Webs.{free_count}
 use Rattle.dc_sparse.specs.Meanings.{cross_meaning}
-use Rattle.dc_sparse.proofs.Tables.{gaps-grid}
+use Rattle.dc_sparse.proofs.Tables.{zero-at, gaps-grid}
 use Rattle.dc_sparse.proofs.Rooms.{fill-gaps}
 use Rattle.dc_sparse.proofs.Growth.{live_kept}
 use Rattle.dc_sparse.specs.Rows.{rows_gaps}
@@ -13,7 +13,11 @@ use Rattle.dc_sparse.proofs.HeldEntries.{held-zero}
 use Rattle.dc_sparse.proofs.cross.CrossTableau.room.Goals as goal
 
 pub need-requires : goal.need-requires
-need-requires c = (let f = fit_pivot c.args.self.now c.args.row c.args.col c.requires.usable.loaded c.requires.place in record { pivot = f.inside; col = f.column })
+need-requires c =
+    let d = c.args.self.now in
+    let f = fit_pivot d c.args.row c.args.col c.requires.usable.loaded c.requires.place in
+    let z = zero-at d.columns (length d.held.web.row_heads.items) (length d.held.web.col_heads.items) d.basis.items (held_at d.held) f.tall f.wide c.args.row c.args.col f.inside f.column c.args.row c.args.col f.inside f.column in
+    record { pivot = f.inside; col = f.column; entry = sym (held-zero d.held c.args.row c.args.col) ∙ sym z ∙ c.requires.place.nonzero }
 
 pub invariant_of-self-2 : goal.invariant_of-self-2
 invariant_of-self-2 c =

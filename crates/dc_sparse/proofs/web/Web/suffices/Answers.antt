@@ -4,10 +4,17 @@ use Rattle.dc_sparse.specs.Entries.{entry_at}
 use Rattle.dc_sparse.specs.Rows.{row_gaps, rows_gaps, entries_in}
 use Rattle.dc_sparse.proofs.Cells.{item_live}
 use Rattle.dc_sparse.proofs.Links.{row-read, down-read}
-use Rattle.dc_sparse.proofs.ColumnSteps.{AreCounted, counted_start, counted_pivot, counted_more, counted_end, counted_so_far}
+use Rattle.dc_sparse.proofs.ColumnSteps.{AreCounted, counted_start, counted_pivot, counted_more, counted_entry, counted_end, counted_so_far}
 use Rattle.dc_sparse.proofs.web.Web.suffices.Goals as goal
 use Rattle.dc_sparse.proofs.web.Web.suffices.Goals.{then-row-pivot+else-left-across, else-row-pivot}
-use Rattle.dc_sparse.proofs.RowSteps.{row_gaps-entries}
+use Rattle.dc_sparse.proofs.RowSteps.{row_gaps-less}
+
+pub overflow_sub-across : goal.overflow_sub-across
+overflow_sub-across c =
+    let w = c.args.self.now in
+    let g = row_gaps-less w.nodes.items c.args.pivot c.args.pivot c.args.col (length w.col_heads.items) c.requires.col c.requires.entry c.requires.entry in
+    let x : c.row_length-length.result ≡ entries_in (entry_at w.nodes.items c.args.pivot) (length w.col_heads.items) = c.row_length-length.ensures in
+    omega arith
 
 pub loop-next-init : goal.loop-next-init
 loop-next-init c =
@@ -70,8 +77,9 @@ loop-next-preserved c =
       | then-row-pivot+else-left-across v ↦
           let m = counted_more w.nodes.items (length w.col_heads.items) c.args.pivot c.args.col count c.loop-next.done n a w.woven.apart inside (length w.col_heads.items) (head_at w.col_heads.items) w.woven.columns in
           let q : count + row_gaps w.nodes.items (row_at w.nodes.items n) c.args.pivot (length w.col_heads.items) ≡ rows_gaps w.nodes.items (length w.col_heads.items) c.args.pivot c.args.col (row_at w.nodes.items n + 1) = m.counted in
-          let g = row_gaps-entries w.nodes.items (row_at w.nodes.items n) c.args.pivot (length w.col_heads.items) in
-          let x : c.row_length-across.result ≡ entries_in (entry_at w.nodes.items c.args.pivot) (length w.col_heads.items) = c.row_length-across.ensures in
+          let nz = counted_entry w.nodes.items (length w.col_heads.items) c.args.pivot c.args.col count c.loop-next.done n a w.woven.apart inside (length w.col_heads.items) (head_at w.col_heads.items) w.woven.columns in
+          let g = row_gaps-less w.nodes.items (row_at w.nodes.items n) c.args.pivot c.args.col (length w.col_heads.items) c.requires.col nz c.requires.entry in
+          let x : c.row_length-length.result ≡ entries_in (entry_at w.nodes.items c.args.pivot) (length w.col_heads.items) = c.row_length-length.ensures in
           let s : rows_gaps w.nodes.items (length w.col_heads.items) c.args.pivot c.args.col (row_at w.nodes.items n + 1) + c.if-row-pivot.left ≤ w.spare = omega (arith, v.left-is, v.if-left-across.false) in
           record { counting = rw (e, ed) (counted_so_far w.nodes.items (length w.col_heads.items) c.args.pivot c.args.col (count + row_gaps w.nodes.items (row_at w.nodes.items n) c.args.pivot (length w.col_heads.items)) (row_at w.nodes.items n + 1) (down_at w.nodes.items n) m); room = rw e s; within = omega arith }
       | else-row-pivot v ↦
