@@ -60,6 +60,9 @@ module _ (xs : List Node) (w pivot col count done node : ℕ) (h : AreCounted xs
   counted_next : IsFirst (by_columns xs) col (row_at xs node + 1) (down_at xs node)
   counted_next = next_first (by_columns xs) lines head col node linked (h.next.0.live, h.next.0.line)
 
+  pub counted_entry : is_zero (entry_at xs (row_at xs node) col) ≡ false
+  counted_entry = ap is_zero (entry-node xs node (row_at xs node) col inside one (record { live = h.next.0.live; row = refl; col = h.next.0.line })) ∙ item-live xs node h.next.0.live
+
   pub counted_pivot : row_at xs node ≡ pivot → AreCounted xs w pivot col count (row_at xs node + 1) (down_at xs node)
   unfolding rows_gaps
   counted_pivot e = record {
@@ -70,7 +73,7 @@ module _ (xs : List Node) (w pivot col count done node : ℕ) (h : AreCounted xs
   pub counted_more : AreCounted xs w pivot col (count + row_gaps xs (row_at xs node) pivot w) (row_at xs node + 1) (down_at xs node)
   unfolding rows_gaps row_gaps
   counted_more =
-      let nz : is_zero (entry_at xs (row_at xs node) col) ≡ false = ap is_zero (entry-node xs node (row_at xs node) col inside one (record { live = h.next.0.live; row = refl; col = h.next.0.line })) ∙ item-live xs node h.next.0.live in
+      let nz = counted_entry in
       let g : count_below w (λ k. is_zero (entry_at xs (row_at xs node) k) && not (is_zero (entry_at xs (row_at xs node) col)) && not (is_zero (entry_at xs pivot k))) ≡ count_below w (λ k. is_zero (entry_at xs (row_at xs node) k) && not (is_zero (entry_at xs pivot k))) =
       count_below-same _ _ w (λ k lk. rw nz (by (is_zero (entry_at xs (row_at xs node) k)) (not (is_zero (entry_at xs pivot k))))) in
       record {
@@ -84,3 +87,6 @@ module _ (xs : List Node) (w pivot col count done node : ℕ) (h : AreCounted xs
 
 pub counted_end : (xs : List Node) (w pivot col count done height : ℕ) → AreCounted xs w pivot col count done None → done ≤ height → count ≡ rows_gaps xs w pivot col height
 counted_end xs w pivot col count done height h le = h.counted ∙ sym (counted_skip xs w pivot col done height None h.next le (λ c e. absurd (let r : ⊥ = cc in r)))
+
+pub counted_so_far : (xs : List Node) (w pivot col count done : ℕ) (to : Option ℕ) → AreCounted xs w pivot col count done to → AreCounted xs w pivot col (rows_gaps xs w pivot col done) done to
+counted_so_far xs w pivot col count done to h = record { counted = refl; next = h.next }

@@ -14,7 +14,8 @@ use Rattle.dc_sparse.specs.Nodes.{col_at, item, right_at, by_rows}
 use Rattle.dc_sparse.specs.Webs.{IsVacant}
 use Rattle.dc_sparse.specs.Entries.{entry_at, StandsAt, IsPut, takes}
 use Rattle.dc_start.specs.Changes.{step_fits}
-use Rattle.dc_sparse.specs.Rows.{reductions_fit, entry_after, reduced_entry, row_gaps, KeepsRows, NoneNegative}
+use Rattle.dc_sparse.specs.Rows.{reductions_fit, entry_after, reduced_entry, row_gaps, entries_in, KeepsRows, NoneNegative}
+use Rattle.dc_sparse.specs.Scales.{IsWhole, AreSmall}
 use Rattle.dc_sparse.proofs.Links.{next_first}
 use Rattle.dc_sparse.proofs.Entries.{entry-vacant, entry-node, item-live}
 use Rattle.dc_sparse.proofs.PlaceCounts.{all_below-on, count_below-on, count_below-none}
@@ -139,6 +140,17 @@ stop_put xs ys i k v (Some q) p l =
     let c = s.col in
     record { live = s.live; line = s.row; place = omega arith }
 
+-- up to the next node of row `pivot` nothing is written
+pub small_on : (old new : List Node) (i pivot done m : ℕ) (o : Option ℕ) → pivot ≢ i → KeepsRows old new i → IsFirst (by_rows new) pivot done o → AreSmall old new i pivot done
+    → ((c : ℕ) → o ≡ Some c → m ≤ col_at new c) → AreSmall old new i pivot m
+small_on old new i pivot done m o apart rows f small le k lt nz = elim (cases_Bool (nat_lt k done)) [
+  | inl e ↦ small k (ltb-true k done e) nz
+  | inr e ↦
+      (let z : is_zero (entry_at new pivot k) ≡ true = gap_before new pivot done o f k (ltb-false k done e) (λ c q. (let l = le c q in omega arith)) in
+      let s : is_zero (entry_at new pivot k) ≡ is_zero (entry_at old pivot k) = ap is_zero (rows.entries pivot k apart) in
+      absurd (let r : ⊥ = cc in r))
+]
+
 module _ (old new : List Node) (i pivot col : ℕ) (factor : ℚ) (was now done : ℕ) (node : ℕ) (left : Option ℕ) (h : IsAlong old new i pivot col factor was now done (Some node) left)
     (apart : pivot ≢ i) (pivot_entry : is_zero (entry_at old pivot col) ≡ false) where
   -- up to the next node of row `pivot` nothing has to be done
@@ -148,6 +160,15 @@ module _ (old new : List Node) (i pivot col : ℕ) (factor : ℚ) (was now done 
 
   pub along_stands : StandsAt new node pivot (col_at new node)
   along_stands = record { live = h.next.0.live; row = h.next.0.line; col = refl }
+
+  -- what is written stays small with one more
+  pub along_small : (newer : List Node) (v : ℚ) → IsPut new newer i (col_at new node) v → IsWhole 41 v → AreSmall old new i pivot done → AreSmall old newer i pivot (col_at new node + 1)
+  along_small newer v p here small k lt nz = elim (cases_Bool (k == col_at new node)) [
+    | inl q ↦ subst (IsWhole 41) (sym (ap (entry_at newer i) (eqb-true k (col_at new node) q) ∙ p.here)) here
+    | inr q ↦
+        (let ne = eqb-false k (col_at new node) q in
+        subst (IsWhole 41) (sym (p.others i k (λ _ z. ne z))) (small_on old new i pivot done (col_at new node) (Some node) apart h.row.rows h.next small (λ m e. (let z : col_at new node ≡ col_at new m = cc in omega arith)) k (omega arith) nz))
+  ]
 
   module _ (one : AreApart (by_rows new)) (inside : node < length new) where
     -- the entry of row `pivot` there is what it was
@@ -187,6 +208,9 @@ pub along_end : (old new : List Node) (i pivot col : ℕ) (factor : ℚ) (was no
 along_end old new i pivot col factor was now done w left h apart pivot_entry le =
     reducing_skip old new i pivot col factor was now done h.row pivot_entry w le
     (λ k l lt. ap is_zero (sym (h.row.rows.entries pivot k apart)) ∙ gap_before new pivot done None h.next k l (λ m e. absurd (let r : ⊥ = cc in r)))
+
+pub small_end : (old new : List Node) (i pivot col : ℕ) (factor : ℚ) (was now done w : ℕ) (left : Option ℕ) → IsAlong old new i pivot col factor was now done None left → pivot ≢ i → AreSmall old new i pivot done → AreSmall old new i pivot w
+small_end old new i pivot col factor was now done w left h apart small = small_on old new i pivot done w None apart h.row.rows h.next small (λ c e. absurd (let r : ⊥ = cc in r))
 
 -- in another column than the pivot's
 pub reduced_step : (o : Option Frac) (k col : ℕ) (factor x y z : ℚ) → k ≢ col → y ≡ z → IsChecked o (step_fits factor x y) (y -ℚ factor *ℚ x) → IsChecked o (k == col || step_fits factor x z) (reduced_entry k col factor x z)
@@ -252,6 +276,66 @@ counting_end xs i pivot count done w left h le = h.counted ∙ sym (counting_ski
 pub unit_most : (b : Bool) (n : ℕ) → n ≡ cond b 1 0 → n ≤ 1
 unit_most true n e = omega arith
 unit_most false n e = omega arith
+
+-- ---- the entries of a row are counted
+
+pub entries_in-most : (row : ℕ → ℚ) (n : ℕ) → entries_in row n ≤ n
+unfolding entries_in
+entries_in-most row zero = omega arith
+entries_in-most row (suc n) = (let r = entries_in-most row n in let c = most (not (is_zero (row n))) in omega arith)
+  where
+    most : (b : Bool) → cond b 1 0 ≤ suc 0
+    most true = omega arith
+    most false = omega arith
+
+pub entries_start : (row : ℕ → ℚ) → 0 ≡ entries_in row 0
+unfolding entries_in
+entries_start row = refl
+
+entries_skip : (xs : List Node) (i m n : ℕ) (o : Option ℕ) → IsFirst (by_rows xs) i m o → m ≤ n → ((c : ℕ) → o ≡ Some c → n ≤ col_at xs c) → entries_in (entry_at xs i) n ≡ entries_in (entry_at xs i) m
+unfolding entries_in
+entries_skip xs i m n o f le lt = count_below-none _ m n le (λ k l u. rw (gap_before xs i m o f k l (λ c e. (let w = lt c e in omega arith))) refl)
+
+pub entries_step : (xs : List Node) (i done node : ℕ) → IsFirst (by_rows xs) i done (Some node) → AreApart (by_rows xs) → node < length xs → entries_in (entry_at xs i) (col_at xs node + 1) ≡ entries_in (entry_at xs i) done + 1
+unfolding entries_in
+entries_step xs i done node f one inside =
+    let at : StandsAt xs node i (col_at xs node) = record { live = f.0.live; row = f.0.line; col = refl } in
+    let nz : is_zero (entry_at xs i (col_at xs node)) ≡ false = ap is_zero (entry-node xs node i (col_at xs node) inside one at) ∙ item-live xs node f.0.live in
+    let s : entries_in (entry_at xs i) (col_at xs node) ≡ entries_in (entry_at xs i) done = entries_skip xs i done (col_at xs node) (Some node) f f.0.place (λ c e. (let q : col_at xs node ≡ col_at xs c = cc in omega arith)) in
+    rw (add-one, nz) (omega arith)
+
+pub entries_end : (xs : List Node) (i done w : ℕ) → IsFirst (by_rows xs) i done None → done ≤ w → entries_in (entry_at xs i) done ≡ entries_in (entry_at xs i) w
+entries_end xs i done w f le = sym (entries_skip xs i done w None f le (λ c e. absurd (let r : ⊥ = cc in r)))
+
+-- where the pivot's row has no entry there is no gap
+gap_less : (a b : Bool) → cond (a && b) 1 0 ≤ cond b 1 0
+gap_less true b = omega arith
+gap_less false true = omega arith
+gap_less false false = omega arith
+
+row_gaps-entries : (xs : List Node) (i pivot w : ℕ) → row_gaps xs i pivot w ≤ entries_in (entry_at xs pivot) w
+unfolding row_gaps entries_in
+row_gaps-entries xs i pivot zero = omega arith
+row_gaps-entries xs i pivot (suc n) = (let r = row_gaps-entries xs i pivot n in let c = gap_less (is_zero (entry_at xs i n)) (not (is_zero (entry_at xs pivot n))) in omega arith)
+
+-- nor is there one in a column in which both rows have an entry
+pub row_gaps-less : (xs : List Node) (i pivot col w : ℕ) → col < w → is_zero (entry_at xs i col) ≡ false → is_zero (entry_at xs pivot col) ≡ false → row_gaps xs i pivot w + 1 ≤ entries_in (entry_at xs pivot) w
+unfolding row_gaps entries_in
+row_gaps-less xs i pivot col zero lt e h = absurd (omega arith)
+row_gaps-less xs i pivot col (suc n) lt e h = elim (cases_Bool (n == col)) [
+  | inl q ↦
+      (let same : n ≡ col = eqb-true n col q in
+      let r = row_gaps-entries xs i pivot n in
+      let p : cond {A = ℕ} (is_zero (entry_at xs i n) && not (is_zero (entry_at xs pivot n))) 1 0 ≡ 0 =
+      ap (λ x. cond {A = ℕ} (is_zero (entry_at xs i x) && not (is_zero (entry_at xs pivot x))) 1 0) same ∙ ap (λ b. cond {A = ℕ} (b && not (is_zero (entry_at xs pivot col))) 1 0) e in
+      let t : cond {A = ℕ} (not (is_zero (entry_at xs pivot n))) 1 0 ≡ 1 = ap (λ x. cond {A = ℕ} (not (is_zero (entry_at xs pivot x))) 1 0) same ∙ ap (λ b. cond {A = ℕ} (not b) 1 0) h in
+      omega arith)
+  | inr q ↦
+      (let ne : n ≢ col = eqb-false n col q in
+      let r = row_gaps-less xs i pivot col n (omega arith) e h in
+      let c = gap_less (is_zero (entry_at xs i n)) (not (is_zero (entry_at xs pivot n))) in
+      omega arith)
+]
 
 -- ---- no negative entry so far
 

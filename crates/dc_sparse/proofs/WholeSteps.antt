@@ -14,15 +14,16 @@ use Rattle.dc_frac.proofs.ZeroSums.{fits-zero}
 use Rattle.dc_frac.proofs.SmallSizes.{lowest_num_below, lowest_den_below, products_fit}
 use Rattle.dc_lp.proofs.Belows.{or_true}
 use Rattle.dc_start.specs.Changes.{step_fits}
+use Rattle.dc_start.proofs.Changes.{step-zero}
 use Rattle.dc_sparse.specs.declared.web.Web.{Web}
 use Rattle.dc_sparse.specs.declared.scaled.Scaled.{Scaled}
 use Rattle.dc_sparse.specs.Entries.{entry_at}
 use Rattle.dc_sparse.specs.Rows.{reductions_fit, entry_after, steps_fit, stepped_at}
-use Rattle.dc_sparse.specs.Scales.{IsWhole, scale_at}
+use Rattle.dc_sparse.specs.Scales.{IsWhole, AreSmall, scale_at}
 use Rattle.dc_sparse.specs.Held.{held_at}
 use Rattle.dc_sparse.proofs.PlaceCounts.{all_below-on}
 use Rattle.dc_sparse.proofs.Quotients.{zero_by}
-use Rattle.dc_sparse.proofs.Wholes.{whole_small, nonzero, zero_test, is_zero-zero, is_zero-/ℚ, whole_of, whole-*ℚ, whole_steps, over_within, steps_within, stepped_fits, den_nonzero}
+use Rattle.dc_sparse.proofs.Wholes.{whole_small, whole_zero, nonzero, zero_test, is_zero-zero, is_zero-/ℚ, whole_of, whole-*ℚ, whole_steps, over_within, steps_within, stepped_fits, den_nonzero}
 use Rattle.dc_sparse.proofs.Scaling.{beyond}
 use Rattle.dc_sparse.proofs.HeldEntries.{held-some, held-within, whole_row}
 
@@ -45,6 +46,9 @@ parted_step y s x d e m f q nd nm ef eq =
         → (y *ℚ m -ℚ (s *ℚ j *ℚ m) *ℚ x) *ℚ n ≡ y *ℚ i -ℚ (s *ℚ i) *ℚ (x *ℚ j)
     plain y s x d i j m n e f = linear₂ (neg_ℚ ((y -ℚ s *ℚ j *ℚ x) *ℚ m *ℚ n)) _ _ _ _ ((y -ℚ s *ℚ j *ℚ x) *ℚ i) _ _ e f
         (ring (y ∷ s ∷ x ∷ d ∷ i ∷ j ∷ m ∷ n ∷ []) (λ ρ p q r t u v w z. simp (p, q, r, t, u, v, w, z, read_nat ρ, reads) (same_form _ _ _ refl)))
+
+times_one : (x : ℚ) → x *ℚ of_ℤ (pos 1) ≡ x
+times_one x = ring (x ∷ []) (λ ρ p. simp (p, read_nat ρ, reads) (same_form _ _ _ refl))
 
 -- ---- the parts of a quotient of small numbers
 
@@ -128,3 +132,23 @@ module _ (s : Scaled) (row pivot col : ℕ) (mine other : Frac) (em : scale_at s
           (let le : length s.web.col_heads.items ≤ k = ltb-false k (length s.web.col_heads.items) q in
           ap (λ x. fits (x /ℚ value by)) (beyond new row k (omega arith)) ∙ ap fits nothing ∙ fits-zero)
     ]
+
+    -- where the row isn't scaled, the numbers that aren't written stay small
+    pub whole_kept : ratio.den ≡ pos 1 → AreSmall mid.nodes.items new.nodes.items row pivot (length s.web.col_heads.items) → (k : ℕ) → IsWhole 41 (entry_at new.nodes.items row k)
+    whole_kept one small k = elim (cases_Bool (nat_lt k (length s.web.col_heads.items))) [
+      | inl q ↦
+          (let lt = ltb-true k (length s.web.col_heads.items) q in
+          elim (cases_Bool (is_zero (entry_at mid.nodes.items pivot k))) [
+            | inl z ↦ subst (IsWhole 41) (sym (reduced k lt)) (kept z)
+            | inr z ↦ small k lt z
+          ])
+      | inr q ↦ (let le : length s.web.col_heads.items ≤ k = ltb-false k (length s.web.col_heads.items) q in subst (IsWhole 41) (sym (beyond new row k (omega arith))) whole_zero)
+    ]
+      where
+        kept : is_zero (entry_at mid.nodes.items pivot k) ≡ true → IsWhole 41 (entry_after mid.nodes.items row pivot col (of_ℤ ratio.num) k)
+        kept z = elim (cases_Bool (k == col)) [
+          | inl e ↦ rw e whole_zero
+          | inr e ↦
+              (let same = times_row k ∙ ap (λ d. entry_at s.web.nodes.items row k *ℚ of_ℤ d) one ∙ times_one (entry_at s.web.nodes.items row k) in
+              rw e (subst (IsWhole 41) ((step-zero (of_ℤ ratio.num) (entry_at mid.nodes.items pivot k) (entry_at mid.nodes.items row k) z).1) (subst (IsWhole 41) (sym same) ((whole_row s row mine em).1 k))))
+        ]

@@ -79,6 +79,10 @@ gaps_in_rows e w pivot col n = count_places n w (λ i k. is_zero (e i k) && not 
 unfoldable pub rows_gaps : List Node → ℕ → ℕ → ℕ → ℕ → ℕ
 rows_gaps xs w pivot col n = count_places n w (λ i k. is_zero (entry_at xs i k) && not (is_zero (entry_at xs i col)) && not (is_zero (entry_at xs pivot k)))
 
+-- in how many of the columns below w a row has an entry
+unfoldable pub entries_in : (ℕ → ℚ) → ℕ → ℕ
+entries_in row w = count_below w (λ k. not (is_zero (row k)))
+
 -- ---- the first negative entry of a row
 
 abbrev pub NoneNegative : List Node → ℕ → ℕ → Type 0

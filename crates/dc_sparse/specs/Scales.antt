@@ -1,8 +1,9 @@
 -- Rows of fractions, and rows of whole numbers over one denominator.
-use Rattle.std.specs.Prelude.{◌≡◌, ℕ, ◌<◌, ◌≤◌, ◌^◌, pos, unsigned_abs, true, List, length, slice_index_or, Option, Some, None}
+use Rattle.std.specs.Prelude.{◌≡◌, ℕ, ◌<◌, ◌≤◌, ◌^◌, pos, unsigned_abs, true, false, List, length, slice_index_or, Option, Some, None}
 use Rattle.dc_math.specs.Rational.{ℚ, of_ℤ}
 use Rattle.dc_math.specs.Inverse.{◌/ℚ◌}
 use Rattle.dc_math.specs.Order.{Positive}
+use Rattle.dc_math.specs.Tests.{is_zero}
 use Rattle.dc_math.specs.Lowest.{lowest}
 use Rattle.dc_frac.specs.declared.Frac.{Frac}
 use Rattle.dc_frac.specs.Value.{value}
@@ -54,3 +55,7 @@ pub record IsPart (x by : ℚ) : Type 0 where
 -- that of each number of a row
 abbrev pub AreParted : (ℕ → ℚ) → ℚ → Type 0
 AreParted row by = (k : ℕ) → IsPart (row k) by
+
+-- in each column below n in which row `pivot` had an entry, row i has a whole number below 2^41
+abbrev pub AreSmall : List Node → List Node → ℕ → ℕ → ℕ → Type 0
+AreSmall old new i pivot n = (k : ℕ) → k < n → is_zero (entry_at old pivot k) ≡ false → IsWhole 41 (entry_at new i k)

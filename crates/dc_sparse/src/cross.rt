@@ -121,7 +121,8 @@ impl Tableau for Cross {
         self.held.web.ratio_row(self.columns, &self.basis, col)
     }
 
-    /// Makes as many nodes free as the pivot fills places, in an arena that grows by those that are missing.
+    /// Makes as many nodes free as the pivot fills places, in an arena that grows by those that are missing. The places are counted
+    /// only where a bound by the lengths of the pivot's row and column passes the free nodes.
     fn room(&mut self, row: usize, col: usize) -> Result<(), AllocError>
         requires usable { IsUsable (cross_meaning self.old) }
         requires place { IsPivotPlace (cross_meaning self.old).table row col }
@@ -132,7 +133,7 @@ impl Tableau for Cross {
         ensures spare { OnOk result (spare_of self.new ≡ max (spare_of self.old) (fill (cross_meaning self.old).table row col)) }
         ensures kept { OnErr result (spare_of self.new ≡ spare_of self.old) }
     {
-        let Some(count) = self.held.web.gaps(row, col) else {
+        let Some(count) = self.held.web.need(row, col) else {
             return Err(AllocError);
         };
         self.held.reserve(count)?;

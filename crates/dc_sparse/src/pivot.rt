@@ -166,8 +166,8 @@ impl Scaled {
         };
         self.dens[row] = None;
         self.web.multiply_row(row, ratio.den);
-        let _reduced = self.web.reduce_row(row, pivot, col, Frac::whole(ratio.num));
-        self.settle(row, by);
+        let reduced = self.web.reduce_row(row, pivot, col, Frac::whole(ratio.num));
+        self.settle(row, by, reduced.small, ratio.den == 1);
     }
 
     /// The same for two rows that needn't hold whole numbers.
@@ -191,7 +191,7 @@ impl Scaled {
     {
         self.spread(row);
         let factor = self.factor(row, pivot, col);
-        if !self.web.reduce_row(row, pivot, col, factor) {
+        if !self.web.reduce_row(row, pivot, col, factor).fits {
             return false;
         }
         self.gather(row);

@@ -1,38 +1,59 @@
 //! Rows of a pivot.
 #![tactic(auto)]
 
-ghost use Rattle.std.specs.Prelude.{◌≡◌, ◌≢◌, ◌+◌, ◌<◌, ◌≤◌, ◌||◌, ◌==◌, IsTrue, IfSome, cond, true, false};
+ghost use Rattle.std.specs.Prelude.{◌≡◌, ◌≢◌, ◌+◌, ◌<◌, ◌≤◌, ◌||◌, ◌==◌, IsTrue, IfSome, cond, max, true, false};
 ghost use Rattle.dc_math.specs.Tests.{is_zero};
 ghost use Rattle.dc_frac.specs.Value.{value, IsChecked};
 ghost use Rattle.dc_start.specs.Changes.{step_fits};
 ghost use Rattle.dc_sparse.specs.Lines.{IsLast};
 ghost use Rattle.dc_sparse.specs.Entries.{entry_at, IsNodeAt, KeepsPlaces};
 ghost use Rattle.dc_sparse.specs.Rows.{IsFirstNegative, reductions_fit, reduced_entry, row_gaps, AreReduced, KeepsRows};
-ghost use Rattle.dc_sparse.specs.Rows.{divisions_fit, AreDivided, rows_gaps};
+ghost use Rattle.dc_sparse.specs.Rows.{divisions_fit, AreDivided, rows_gaps, entries_in};
+ghost use Rattle.dc_sparse.specs.Scales.{IsWhole, AreSmall};
 ghost use Rattle.dc_sparse.specs.Held.{nodes_of, node_count, height_of, width_of, rows_of};
 
 use crate::web::Web;
+use crate::whole::is_small;
 use dc_frac::Frac;
 use dc_start::step;
 
+/// What came of a row's reduction: whether it fits, and whether all numbers that it wrote are whole and small. It may say that they
+/// aren't where they are.
+#[derive(Clone, Copy, Drop)]
+pub(crate) struct Reduction {
+    pub fits: bool,
+    pub small: bool,
+}
+
 impl Web {
-    /// Takes `factor` times row `pivot` from another row. Column `col` becomes 0. Whether it fits; where it doesn't, the row is left
-    /// half done. It takes no memory.
-    pub(crate) fn reduce_row(&mut self, row: usize, pivot: usize, col: usize, factor: Frac) -> bool
+    /// Takes `factor` times row `pivot` from another row. Column `col` becomes 0. Where that doesn't fit, the row is left half done.
+    /// It takes no memory.
+    pub(crate) fn reduce_row(
+        &mut self,
+        row: usize,
+        pivot: usize,
+        col: usize,
+        factor: Frac,
+    ) -> Reduction
         requires row { row < height_of self.old }
         requires pivot { pivot < height_of self.old }
         requires other { pivot ≢ row }
         requires entry { is_zero (entry_at (nodes_of self.old) pivot col) ≡ false }
         requires spare { row_gaps (nodes_of self.old) row pivot (width_of self.old) ≤ self.old.spare }
-        ensures fits { result ≡ reductions_fit (nodes_of self.old) row pivot col (value factor) (width_of self.old) }
-        ensures reduced { IsTrue result
+        ensures fits { result.fits
+            ≡ reductions_fit (nodes_of self.old) row pivot col (value factor) (width_of self.old) }
+        ensures small { IsTrue result.small
+            → AreSmall (nodes_of self.old) (nodes_of self.new) row pivot (width_of self.old) }
+        ensures reduced { IsTrue result.fits
             → AreReduced (nodes_of self.old) (nodes_of self.new) row pivot col (value factor) (width_of self.old) }
         ensures others { KeepsRows (nodes_of self.old) (nodes_of self.new) row }
-        ensures spare { IsTrue result → self.old.spare ≤ self.new.spare + row_gaps (nodes_of self.old) row pivot (width_of self.old) }
+        ensures spare { IsTrue result.fits → self.old.spare
+            ≤ self.new.spare + row_gaps (nodes_of self.old) row pivot (width_of self.old) }
         ensures arena { node_count self.new ≡ node_count self.old }
         ensures height { height_of self.new ≡ height_of self.old }
         ensures width { width_of self.new ≡ width_of self.old }
     {
+        let mut small = true;
         let mut left = None;
         let mut done = 0;
         let mut source = self.right_of(pivot, None);
@@ -42,13 +63,21 @@ impl Web {
             left = self.left_of(row, at, left);
             let found = self.node_at(row, at, left);
             match self.entry_after(row, at, col, factor, by, found) {
-                Some(entry) => self.put(row, at, entry, left, found),
-                None => return false,
+                Some(entry) => {
+                    small = stays_small(small, entry);
+                    self.put(row, at, entry, left, found);
+                }
+                None => {
+                    return Reduction {
+                        fits: false,
+                        small: false,
+                    };
+                }
             }
             done = at + 1;
             source = self.nodes[node].right;
         }
-        true
+        Reduction { fits: true, small }
     }
 
     /// Divides a row. Whether the quotients fit; where they don't, the row is left half done. It takes no memory.
@@ -151,6 +180,67 @@ impl Web {
         Some(count)
     }
 
+    /// How many nodes are to be free for the pivot at a place: as many as it makes entries from 0, or 0 where enough are free for sure.
+    /// `None` where that passes 64 bits.
+    pub(crate) fn need(&self, pivot: usize, col: usize) -> Option<usize>
+        requires pivot { pivot < height_of self.now }
+        requires col { col < width_of self.now }
+        requires entry { is_zero (entry_at (nodes_of self.now) pivot col) ≡ false }
+        ensures { IfSome result (λ n. max self.now.spare n
+            ≡ max self.now.spare (rows_gaps (nodes_of self.now) (width_of self.now) pivot col
+            (height_of self.now))) }
+    {
+        if self.suffices(pivot, col) {
+            return Some(0);
+        }
+        self.gaps(pivot, col)
+    }
+
+    /// Whether the free nodes suffice for the pivot at a place even if no other row that has an entry in its column has one in the other
+    /// columns of the pivot's row.
+    fn suffices(&self, pivot: usize, col: usize) -> bool
+        requires pivot { pivot < height_of self.now }
+        requires col { col < width_of self.now }
+        requires entry { is_zero (entry_at (nodes_of self.now) pivot col) ≡ false }
+        ensures { IsTrue result
+            → rows_gaps (nodes_of self.now) (width_of self.now) pivot col (height_of self.now)
+            ≤ self.now.spare }
+    {
+        let length = self.row_length(pivot);
+        let across = length - 1;
+        let mut left = self.spare;
+        let mut done = 0;
+        let mut next = self.down_of(col, None);
+        while let Some(node) = next {
+            let row = self.nodes[node].row;
+            if row != pivot {
+                if left < across {
+                    return false;
+                }
+                left -= across;
+            }
+            done = row + 1;
+            next = self.nodes[node].down;
+        }
+        true
+    }
+
+    /// How many entries a row has.
+    fn row_length(&self, row: usize) -> usize
+        requires row { row < height_of self.now }
+        ensures { result ≡ entries_in (entry_at (nodes_of self.now) row) (width_of self.now) }
+    {
+        let mut count = 0;
+        let mut done = 0;
+        let mut next = self.right_of(row, None);
+        while let Some(node) = next {
+            count += 1;
+            done = self.nodes[node].col + 1;
+            next = self.nodes[node].right;
+        }
+        count
+    }
+
     /// What the entry in a column of a row becomes, whose node is `found`, where the pivot's row has `by` there.
     fn entry_after(
         &self,
@@ -174,4 +264,12 @@ impl Web {
             None => step(Frac::whole(0), factor, by),
         }
     }
+}
+
+/// Whether numbers stay whole and small with one more.
+fn stays_small(small: bool, entry: Frac) -> bool
+    ensures before { IsTrue result → IsTrue small }
+    ensures here { IsTrue result → IsWhole 41 (value entry) }
+{
+    small && is_small(&entry)
 }

@@ -1,6 +1,8 @@
 use Rattle.std.proofs.Common.{rules, ◌≡◌, ◌<◌, ◌∙◌, ℕ, true, false, None, IsTrue, SFits, length, set, arith, sym, subst, ap}
 use Rattle.std.proofs.lemmas.Int.{to_z-of_z}
+use Rattle.std.proofs.lemmas.Bool.{eqb-true}
 use mir.Syntax.{w128}
+use mir.Val.{of_z, to_z}
 use Rattle.dc_math.specs.Rational.{of_ℤ, ◌*ℚ◌}
 use Rattle.dc_math.specs.Inverse.{◌/ℚ◌}
 use Rattle.dc_math.specs.Tests.{is_zero}
@@ -14,7 +16,7 @@ use Rattle.dc_sparse.proofs.Scaling.{scaled-set, taller, scale-elsewhere}
 use Rattle.dc_sparse.proofs.Wholes.{whole_nonzero, whole_small, den_nonzero, over_fits, over_within, is_zero-*ℚ}
 use Rattle.dc_sparse.proofs.HeldEntries.{held-zero, held-kept, whole_row}
 use Rattle.dc_sparse.proofs.TurnSteps.{gaps-same}
-use Rattle.dc_sparse.proofs.WholeSteps.{den_whole, scaling_fits, whole_reductions, held_steps, by_fine, whole_step, whole_quotients}
+use Rattle.dc_sparse.proofs.WholeSteps.{den_whole, scaling_fits, whole_reductions, held_steps, by_fine, whole_step, whole_quotients, whole_kept}
 use Rattle.dc_sparse.proofs.scaled.Scaled.reduce_whole.Goals as goal
 
 pub unreachable-requires : goal.unreachable-requires
@@ -172,11 +174,44 @@ settle-requires-clause-fit c =
     let r = c.reduce_row-reduced.ensures in
     let f₁ : SFits w128 ratio.num = search rules in
     let ef : value c.whole-2.result ≡ of_ℤ ratio.num = (simp to_z-of_z at c.whole-2.ensures) in
-    let good : IsTrue c.reduce_row-reduced.result = r.fits ∙ ap (λ x. reductions_fit mid.nodes.items c.args.row c.args.pivot c.args.col x (length mid.col_heads.items)) ef ∙ whole_reductions s c.args.row c.args.pivot c.args.col c.args.mine c.args.other c.requires.mine c.requires.den ratio by er nz eb mid erow epivot (length mid.col_heads.items) in
+    let good : IsTrue c.reduce_row-reduced.result.fits = r.fits ∙ ap (λ x. reductions_fit mid.nodes.items c.args.row c.args.pivot c.args.col x (length mid.col_heads.items)) ef ∙ whole_reductions s c.args.row c.args.pivot c.args.col c.args.mine c.args.other c.requires.mine c.requires.den ratio by er nz eb mid erow epivot (length mid.col_heads.items) in
     let broad : length last.col_heads.items ≡ length s.web.col_heads.items = r.width ∙ wide in
     let reduced : (k : ℕ) → k < length s.web.col_heads.items → entry_at last.nodes.items c.args.row k ≡ entry_after mid.nodes.items c.args.row c.args.pivot c.args.col (of_ℤ ratio.num) k =
     λ k lk. r.reduced good k (omega arith) ∙ ap (λ x. entry_after mid.nodes.items c.args.row c.args.pivot c.args.col x k) ef in
     whole_quotients s c.args.row c.args.pivot c.args.col c.args.mine c.args.other c.requires.mine c.requires.den ratio by er nz eb mid erow epivot last broad reduced
+
+pub settle-requires-clause-whole : goal.settle-requires-clause-whole
+settle-requires-clause-whole c small one =
+    let s = c.args.self.now in
+    let ratio = c.in-Some.ratio in
+    let w₁ = whole_row s c.args.row c.args.mine c.requires.mine in
+    let w₂ = whole_row s c.args.pivot c.args.other c.requires.den in
+    let er : value ratio ≡ entry_at s.web.nodes.items c.args.row c.args.col /ℚ value c.args.other = c.in-Some.ensures.1 ∙ ap (λ x. x /ℚ value c.args.other) c.requires.number in
+    let nz : is_zero (of_ℤ ratio.den) ≡ false = whole_nonzero ratio.den ratio.positive in
+    let within : IsWithin 41 (value ratio) = subst (IsWithin 41) (sym er) (over_within (entry_at s.web.nodes.items c.args.row c.args.col) (value c.args.other) (w₁.1 c.args.col) w₂.0) in
+    let f₂ : SFits w128 ratio.den = search rules in
+    let ew : value c.whole.result ≡ of_ℤ ratio.den = (simp to_z-of_z at c.whole.ensures) in
+    let by = c.in-Some-mul.by in
+    let eb : value by ≡ value c.args.mine *ℚ of_ℤ ratio.den = c.in-Some-mul.ensures.1 ∙ ap (λ x. value c.args.mine *ℚ x) ew in
+    let mid = c.multiply_row.new.self in
+    let d = c.multiply_row.ensures in
+    let wide : length mid.col_heads.items ≡ length s.web.col_heads.items = d.sizes.width in
+    let erow : (k : ℕ) → entry_at mid.nodes.items c.args.row k ≡ entry_at s.web.nodes.items c.args.row k *ℚ of_ℤ ratio.den = (simp to_z-of_z at d.multiplied) in
+    let epivot : (k : ℕ) → entry_at mid.nodes.items c.args.pivot k ≡ entry_at s.web.nodes.items c.args.pivot k = λ k. d.others.entries c.args.pivot k c.requires.other in
+    let gaps : row_gaps mid.nodes.items c.args.row c.args.pivot (length mid.col_heads.items) ≡ gaps_in_row (held_at s) c.args.row c.args.pivot (length s.web.col_heads.items) =
+    ap (row_gaps mid.nodes.items c.args.row c.args.pivot) wide
+    ∙ gaps-same s mid.nodes.items c.args.row c.args.pivot (length s.web.col_heads.items)
+    (λ k. ap is_zero (erow k) ∙ is_zero-*ℚ (entry_at s.web.nodes.items c.args.row k) (of_ℤ ratio.den) nz ∙ sym (held-zero s c.args.row k))
+    (λ k. ap is_zero (epivot k) ∙ sym (held-zero s c.args.pivot k)) in
+    let last = c.reduce_row-reduced.new.self in
+    let r = c.reduce_row-reduced.ensures in
+    let f₁ : SFits w128 ratio.num = search rules in
+    let ef : value c.whole-2.result ≡ of_ℤ ratio.num = (simp to_z-of_z at c.whole-2.ensures) in
+    let good : IsTrue c.reduce_row-reduced.result.fits = r.fits ∙ ap (λ x. reductions_fit mid.nodes.items c.args.row c.args.pivot c.args.col x (length mid.col_heads.items)) ef ∙ whole_reductions s c.args.row c.args.pivot c.args.col c.args.mine c.args.other c.requires.mine c.requires.den ratio by er nz eb mid erow epivot (length mid.col_heads.items) in
+    let broad : length last.col_heads.items ≡ length s.web.col_heads.items = r.width ∙ wide in
+    let reduced : (k : ℕ) → k < length s.web.col_heads.items → entry_at last.nodes.items c.args.row k ≡ entry_after mid.nodes.items c.args.row c.args.pivot c.args.col (of_ℤ ratio.num) k =
+    λ k lk. r.reduced good k (omega arith) ∙ ap (λ x. entry_after mid.nodes.items c.args.row c.args.pivot c.args.col x k) ef in
+    whole_kept s c.args.row c.args.pivot c.args.col c.args.mine c.args.other c.requires.mine c.requires.den ratio by er nz eb mid erow epivot last broad reduced (sym (to_z-of_z w128 ratio.den f₂) ∙ ap (to_z w128) (eqb-true (of_z w128 ratio.den) 1 one)) (λ k lk z. r.small small k (omega arith) z)
 
 pub returns-clause-fits : goal.returns-clause-fits
 returns-clause-fits c =
@@ -230,7 +265,7 @@ returns-clause-reduced c k lk =
     let r = c.reduce_row-reduced.ensures in
     let f₁ : SFits w128 ratio.num = search rules in
     let ef : value c.whole-2.result ≡ of_ℤ ratio.num = (simp to_z-of_z at c.whole-2.ensures) in
-    let good : IsTrue c.reduce_row-reduced.result = r.fits ∙ ap (λ x. reductions_fit mid.nodes.items c.args.row c.args.pivot c.args.col x (length mid.col_heads.items)) ef ∙ whole_reductions s c.args.row c.args.pivot c.args.col c.args.mine c.args.other c.requires.mine c.requires.den ratio by er nz eb mid erow epivot (length mid.col_heads.items) in
+    let good : IsTrue c.reduce_row-reduced.result.fits = r.fits ∙ ap (λ x. reductions_fit mid.nodes.items c.args.row c.args.pivot c.args.col x (length mid.col_heads.items)) ef ∙ whole_reductions s c.args.row c.args.pivot c.args.col c.args.mine c.args.other c.requires.mine c.requires.den ratio by er nz eb mid erow epivot (length mid.col_heads.items) in
     let broad : length last.col_heads.items ≡ length s.web.col_heads.items = r.width ∙ wide in
     let reduced : (k : ℕ) → k < length s.web.col_heads.items → entry_at last.nodes.items c.args.row k ≡ entry_after mid.nodes.items c.args.row c.args.pivot c.args.col (of_ℤ ratio.num) k =
     λ k lk. r.reduced good k (omega arith) ∙ ap (λ x. entry_after mid.nodes.items c.args.row c.args.pivot c.args.col x k) ef in
@@ -276,7 +311,7 @@ returns-clause-spare c =
     let r = c.reduce_row-reduced.ensures in
     let f₁ : SFits w128 ratio.num = search rules in
     let ef : value c.whole-2.result ≡ of_ℤ ratio.num = (simp to_z-of_z at c.whole-2.ensures) in
-    let good : IsTrue c.reduce_row-reduced.result = r.fits ∙ ap (λ x. reductions_fit mid.nodes.items c.args.row c.args.pivot c.args.col x (length mid.col_heads.items)) ef ∙ whole_reductions s c.args.row c.args.pivot c.args.col c.args.mine c.args.other c.requires.mine c.requires.den ratio by er nz eb mid erow epivot (length mid.col_heads.items) in
+    let good : IsTrue c.reduce_row-reduced.result.fits = r.fits ∙ ap (λ x. reductions_fit mid.nodes.items c.args.row c.args.pivot c.args.col x (length mid.col_heads.items)) ef ∙ whole_reductions s c.args.row c.args.pivot c.args.col c.args.mine c.args.other c.requires.mine c.requires.den ratio by er nz eb mid erow epivot (length mid.col_heads.items) in
     let broad : length last.col_heads.items ≡ length s.web.col_heads.items = r.width ∙ wide in
     let reduced : (k : ℕ) → k < length s.web.col_heads.items → entry_at last.nodes.items c.args.row k ≡ entry_after mid.nodes.items c.args.row c.args.pivot c.args.col (of_ℤ ratio.num) k =
     λ k lk. r.reduced good k (omega arith) ∙ ap (λ x. entry_after mid.nodes.items c.args.row c.args.pivot c.args.col x k) ef in
