@@ -6,7 +6,7 @@ use Rattle.dc_math.specs.Tests.{is_zero, eq_ℚ-true}
 use Rattle.dc_frac.specs.Value.{value}
 use Rattle.dc_sparse.specs.declared.web.Node.{Node}
 use Rattle.dc_sparse.specs.Lines.{IsLast}
-use Rattle.dc_sparse.specs.Nodes.{row_at, col_at, item, right_at, head_at, is_live, by_rows}
+use Rattle.dc_sparse.specs.Nodes.{link, row_at, col_at, item, right_at, head_at, is_live, by_rows}
 use Rattle.dc_sparse.specs.Webs.{IsFree, IsTop, free_count, IsWoven, IsBlank, AreEmpty, AreFreed, top_of}
 use Rattle.dc_sparse.specs.Entries.{IsPut, KeepsAll}
 use Rattle.dc_sparse.proofs.Cells.{IsWritten, at_same, at_other}
@@ -15,7 +15,7 @@ use Rattle.dc_sparse.proofs.FreeCounts.{free_count-first}
 pub freed_start : (xs : List Node) → AreFreed xs (length xs) 0
 freed_start xs = record { size = refl; row = λ a l. absurd (omega arith); item = λ a l. absurd (omega arith); right = λ a l. absurd (omega arith) }
 
-pub freed_more : (xs ys : List Node) (long n : ℕ) (x : Node) → AreFreed xs long n → IsWritten xs ys n x → x.row ≡ n → value x.value ≡ of_ℤ (pos 0) → x.right ≡ top_of n → AreFreed ys long (n + 1)
+pub freed_more : (xs ys : List Node) (long n : ℕ) (x : Node) → AreFreed xs long n → IsWritten xs ys n x → x.row ≡ n → value x.value ≡ of_ℤ (pos 0) → link x.right ≡ top_of n → AreFreed ys long (n + 1)
 freed_more xs ys long n x h w r v t = record {
   size = w.long ∙ h.size;
   row = below_more (λ a. row_at ys a ≡ a) n (λ a l. w.row a ∙ at_other a n _ _ (omega arith) ∙ h.row a l) (w.row n ∙ at_same n _ _ ∙ r);

@@ -5,7 +5,7 @@ use Rattle.dc_math.specs.Rational.{of_ℤ}
 use Rattle.dc_math.specs.Tests.{is_zero, eq_ℚ-true}
 use Rattle.dc_frac.specs.Value.{value}
 use Rattle.dc_sparse.specs.declared.web.Node.{Node}
-use Rattle.dc_sparse.specs.Nodes.{row_at, col_at, right_at, head_at, is_live, by_rows, by_columns}
+use Rattle.dc_sparse.specs.Nodes.{link, row_at, col_at, right_at, head_at, is_live, by_rows, by_columns}
 use Rattle.dc_sparse.specs.Webs.{IsFree, IsTop, IsFreeList, IsWoven}
 use Rattle.dc_sparse.specs.Entries.{KeepsAll}
 use Rattle.dc_sparse.proofs.Lines.{StandAs, linked_all, apart_less}
@@ -14,7 +14,7 @@ use Rattle.dc_sparse.proofs.FreeCounts.{free_count-more}
 use Rattle.dc_sparse.proofs.Entries.{entry_appended}
 
 module _ (xs : List Node) (rh ch : List (Option ℕ)) (free : Option ℕ) (spare n : ℕ) (x : Node)
-    (woven : IsWoven xs rh ch free spare) (zero_now : value x.value ≡ of_ℤ (pos 0)) (rank_now : x.row ≡ spare) (next_now : x.right ≡ free) (end : n ≡ length xs) where
+    (woven : IsWoven xs rh ch free spare) (zero_now : value x.value ≡ of_ℤ (pos 0)) (rank_now : x.row ≡ spare) (next_now : link x.right ≡ free) (end : n ≡ length xs) where
   abbrev ys : List Node
   ys = xs ++ x ∷ []
 

@@ -5,7 +5,7 @@ use Rattle.dc_math.specs.Tests.{is_zero}
 use Rattle.dc_frac.specs.Value.{value}
 use Rattle.dc_sparse.specs.declared.web.Node.{Node}
 use Rattle.dc_sparse.specs.Lines.{Lines, IsFirst, IsLast, AreApart, link_after}
-use Rattle.dc_sparse.specs.Nodes.{row_at, col_at, item, right_at, down_at, head_at, is_live, by_rows, by_columns, IsIn, IsRelinkedRight, IsRelinkedDown, AreReheaded}
+use Rattle.dc_sparse.specs.Nodes.{link, row_at, col_at, item, right_at, down_at, head_at, is_live, by_rows, by_columns, IsIn, IsRelinkedRight, IsRelinkedDown, AreReheaded}
 use Rattle.dc_sparse.specs.Webs.{IsFree, IsTop, IsFreeList, AreWithin, IsWoven, IsVacant, IsPlaced}
 use Rattle.dc_sparse.proofs.Lines.{StandAs, IsInserted, inserted, apart_more}
 use Rattle.dc_sparse.proofs.Cells.{IsWritten, at_same, at_other}
@@ -29,7 +29,7 @@ module _ (xs ws ys zs : List Node) (rh rh' ch ch' : List (Option ℕ)) (spare n 
     (woven : IsWoven xs rh ch (Some n) spare)
     (inside_row : x.row < length rh) (inside_col : x.col < length ch) (nonzero : is_zero (value x.value) ≡ false) (vacant : IsVacant xs x.row x.col)
     (last_left : IsLast (by_rows xs) x.row x.col left) (last_above : IsLast (by_columns xs) x.col x.row above)
-    (first_right : IsFirst (by_rows xs) x.row x.col x.right) (first_down : IsFirst (by_columns xs) x.col x.row x.down)
+    (first_right : IsFirst (by_rows xs) x.row x.col (link x.right)) (first_down : IsFirst (by_columns xs) x.col x.row (link x.down))
     (w : IsWritten xs ws n x) (r : IsRelinkedRight ws ys left (Some n)) (d : IsRelinkedDown ys zs above (Some n))
     (hr : AreReheaded rh rh' left x.row (Some n)) (hc : AreReheaded ch ch' above x.col (Some n)) where
   taken : IsFree xs n
@@ -77,13 +77,13 @@ module _ (xs ws ys zs : List Node) (rh rh' ch ch' : List (Option ℕ)) (spare n 
   not_above : (p : ℕ) → above ≡ Some p → n ≢ p
   not_above p e q = not_taken p (last_live (by_columns xs) x.col x.row above p last_above e) (sym q)
 
-  right_new : right_at zs n ≡ x.right
+  right_new : right_at zs n ≡ link x.right
   right_new = d.right n ∙ r.right n ∙ relinked_other left (Some n) n (right_at ws n) not_left ∙ w.right n ∙ at_same n _ _
 
   right_other : (a : ℕ) → a ≢ n → right_at zs a ≡ link_after left (Some n) a (right_at xs a)
   right_other a ne = d.right a ∙ r.right a ∙ ap (link_after left (Some n) a) (w.right a ∙ at_other a n _ _ ne)
 
-  down_new : down_at zs n ≡ x.down
+  down_new : down_at zs n ≡ link x.down
   down_new = d.down n ∙ relinked_other above (Some n) n (down_at ys n) not_above ∙ r.down n ∙ w.down n ∙ at_same n _ _
 
   down_other : (a : ℕ) → a ≢ n → down_at zs a ≡ link_after above (Some n) a (down_at xs a)
@@ -95,10 +95,10 @@ module _ (xs ws ys zs : List Node) (rh rh' ch ch' : List (Option ℕ)) (spare n 
   columns_stand : StandAs (by_columns xs) (by_columns zs) n
   columns_stand = record { live = live_other; line = placed.others.col; place = placed.others.row }
 
-  rows_in : IsInserted (by_rows xs) (by_rows zs) (head_at rh) (head_at rh') n x.row x.col left x.right
+  rows_in : IsInserted (by_rows xs) (by_rows zs) (head_at rh) (head_at rh') n x.row x.col left (link x.right)
   rows_in = record { others = rows_stand; dead = taken.dead; live = live_new; line = placed.row; place = placed.col; next = right_new; nexts = right_other; heads = hr.heads }
 
-  columns_in : IsInserted (by_columns xs) (by_columns zs) (head_at ch) (head_at ch') n x.col x.row above x.down
+  columns_in : IsInserted (by_columns xs) (by_columns zs) (head_at ch) (head_at ch') n x.col x.row above (link x.down)
   columns_in = record { others = columns_stand; dead = taken.dead; live = live_new; line = placed.col; place = placed.row; next = down_new; nexts = down_other; heads = hc.heads }
 
   -- no two nodes at one place, read by columns
@@ -171,8 +171,8 @@ module _ (xs ws ys zs : List Node) (rh rh' ch ch' : List (Option ℕ)) (spare n 
       let o = woven.count in
       record {
         within = within;
-        rows = rw hr.long (inserted (by_rows xs) (by_rows zs) (length rh) (head_at rh) (head_at rh') n x.row x.col left x.right rows_in woven.apart vacant last_left first_right woven.rows);
-        columns = rw hc.long (inserted (by_columns xs) (by_columns zs) (length ch) (head_at ch) (head_at ch') n x.col x.row above x.down columns_in columns_apart (λ c lc e f. vacant c lc f e) last_above first_down woven.columns);
+        rows = rw hr.long (inserted (by_rows xs) (by_rows zs) (length rh) (head_at rh) (head_at rh') n x.row x.col left (link x.right) rows_in woven.apart vacant last_left first_right woven.rows);
+        columns = rw hc.long (inserted (by_columns xs) (by_columns zs) (length ch) (head_at ch) (head_at ch') n x.col x.row above (link x.down) columns_in columns_apart (λ c lc e f. vacant c lc f e) last_above first_down woven.columns);
         apart = apart_more (by_rows xs) (by_rows zs) n x.row x.col rows_stand live_new placed.row placed.col vacant woven.apart;
         unused = unused;
         count = omega arith;

@@ -15,6 +15,7 @@ pub mod RowWalks
 pub mod Quotients
 pub mod Wholes
 pub mod Scaling
+mod Smalls
 pub mod HeldEntries
 pub mod WholeSteps
 pub mod TurnSteps

@@ -4,7 +4,7 @@ use Rattle.std.proofs.lemmas.List.{get_or_default}
 use Rattle.std.proofs.lemmas.Bool.{cases_Bool, ltb-true, ltb-false}
 use Rattle.dc_sparse.specs.declared.web.Node.{Node}
 use Rattle.dc_sparse.specs.Lines.{Lines, IsFirst, IsLast, AreLinked, IsStop, StandsBefore, place_after}
-use Rattle.dc_sparse.specs.Nodes.{row_at, col_at, right_at, down_at, head_at, by_rows, by_columns}
+use Rattle.dc_sparse.specs.Nodes.{link, row_at, col_at, right_at, down_at, head_at, by_rows, by_columns}
 use Rattle.dc_sparse.specs.Webs.{IsVacant}
 use Rattle.dc_sparse.specs.Entries.{StandsAt}
 use Rattle.dc_sparse.proofs.Lines.{first_behind, first_ahead}
@@ -75,13 +75,13 @@ walk_smaller s lines places head i k at n linked w lt =
     less None f = omega arith
     less (Some m) f = (let l = f.0.place in omega arith)
 
-pub right-read : (xs : List Node) (n : ℕ) (x : Node) → n < length xs → x ≡ slice_index_or xs n x → x.right ≡ right_at xs n
+pub right-read : (xs : List Node) (n : ℕ) (x : Node) → n < length xs → x ≡ slice_index_or xs n x → link x.right ≡ right_at xs n
 unfolding right_at
-right-read xs n x lt e = part-read (λ z. z.right) None xs n x lt e
+right-read xs n x lt e = part-read (λ z. link z.right) None xs n x lt e
 
-pub down-read : (xs : List Node) (n : ℕ) (x : Node) → n < length xs → x ≡ slice_index_or xs n x → x.down ≡ down_at xs n
+pub down-read : (xs : List Node) (n : ℕ) (x : Node) → n < length xs → x ≡ slice_index_or xs n x → link x.down ≡ down_at xs n
 unfolding down_at
-down-read xs n x lt e = part-read (λ z. z.down) None xs n x lt e
+down-read xs n x lt e = part-read (λ z. link z.down) None xs n x lt e
 
 pub head-read : (hs : List (Option ℕ)) (i : ℕ) (o : Option ℕ) → i < length hs → o ≡ slice_index_or hs i o → o ≡ head_at hs i
 unfolding head_at

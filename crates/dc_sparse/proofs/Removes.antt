@@ -6,7 +6,7 @@ use Rattle.dc_math.specs.Tests.{is_zero, eq_ℚ-true}
 use Rattle.dc_frac.specs.Value.{value}
 use Rattle.dc_sparse.specs.declared.web.Node.{Node}
 use Rattle.dc_sparse.specs.Lines.{IsLast, AreApart, link_after}
-use Rattle.dc_sparse.specs.Nodes.{row_at, col_at, item, right_at, down_at, head_at, is_live, by_rows, by_columns, IsRelinkedRight, IsRelinkedDown, AreReheaded}
+use Rattle.dc_sparse.specs.Nodes.{link, row_at, col_at, item, right_at, down_at, head_at, is_live, by_rows, by_columns, IsRelinkedRight, IsRelinkedDown, AreReheaded}
 use Rattle.dc_sparse.specs.Webs.{IsFree, IsTop, IsFreeList, AreWithin, IsWoven, IsCleared}
 use Rattle.dc_sparse.proofs.Lines.{StandAs, IsRemoved, removed, apart_less}
 use Rattle.dc_sparse.proofs.Cells.{IsWritten, at_same, at_other, item_live}
@@ -15,7 +15,7 @@ use Rattle.dc_sparse.proofs.Inserts.{relinked_other, last_live}
 
 module _ (xs ws ys zs : List Node) (rh rh' ch ch' : List (Option ℕ)) (free : Option ℕ) (spare n : ℕ) (x : Node) (left above : Option ℕ)
     (woven : IsWoven xs rh ch free spare) (live : is_live xs n ≡ true)
-    (zero_now : value x.value ≡ of_ℤ (pos 0)) (rank_now : x.row ≡ spare) (next_now : x.right ≡ free)
+    (zero_now : value x.value ≡ of_ℤ (pos 0)) (rank_now : x.row ≡ spare) (next_now : link x.right ≡ free)
     (last_left : IsLast (by_rows xs) (row_at xs n) (col_at xs n) left) (last_above : IsLast (by_columns xs) (col_at xs n) (row_at xs n) above)
     (w : IsWritten xs ws n x) (r : IsRelinkedRight ws ys left (right_at xs n)) (d : IsRelinkedDown ys zs above (down_at xs n))
     (hr : AreReheaded rh rh' left (row_at xs n) (right_at xs n)) (hc : AreReheaded ch ch' above (col_at xs n) (down_at xs n)) where

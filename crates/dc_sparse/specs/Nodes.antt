@@ -1,10 +1,25 @@
 -- What stands in an arena of nodes. At an index behind its end there is no node.
-use Rattle.std.specs.Prelude.{◌≡◌, ℕ, ◌<◌, Bool, not, pos, List, map, length, slice_index_or, Option, Some, None}
+use Rattle.std.specs.Prelude.{◌≡◌, ℕ, ◌<◌, ◌-◌, ◌==◌, cond, Bool, not, pos, List, map, length, slice_index_or, Option, Some, None}
 use Rattle.dc_math.specs.Rational.{ℚ, of_ℤ}
 use Rattle.dc_math.specs.Tests.{is_zero}
 use Rattle.dc_frac.specs.Value.{value}
 use Rattle.dc_sparse.specs.declared.web.Node.{Node}
 use Rattle.dc_sparse.specs.Lines.{Lines, link_after, head_after}
+
+-- ---- how a node keeps the one that follows it
+
+-- there are at most so many nodes, rows and columns
+abbrev pub most : ℕ
+most = 4294967295
+
+-- an index is kept as the next number, and none as 0
+abbrev pub link : ℕ → Option ℕ
+link n = cond (n == 0) None (Some (n - 1))
+
+-- what can be kept so
+abbrev pub IsLink : Option ℕ → Type 0
+IsLink None = Unit {0}
+IsLink (Some a) = a < most
 
 -- ---- the parts of the node at an index
 
@@ -21,10 +36,10 @@ unfoldable pub item : List Node → ℕ → ℚ
 item xs a = part (λ n. value n.value) (of_ℤ (pos 0)) xs a
 
 unfoldable pub right_at : List Node → ℕ → Option ℕ
-right_at xs a = part (λ n. n.right) None xs a
+right_at xs a = part (λ n. link n.right) None xs a
 
 unfoldable pub down_at : List Node → ℕ → Option ℕ
-down_at xs a = part (λ n. n.down) None xs a
+down_at xs a = part (λ n. link n.down) None xs a
 
 unfoldable pub head_at : List (Option ℕ) → ℕ → Option ℕ
 head_at hs l = slice_index_or hs l None

@@ -15,6 +15,7 @@ use std::alloc::{AllocError, Global};
 /// A tableau of linked nodes, one for each entry that isn't 0. The nodes stand in an arena: a pivot passes along the rows that have
 /// an entry in its column, frees the nodes of entries that become 0 and takes free ones for those that come, and takes no memory.
 /// A row holds whole numbers over one denominator as long as all of them stay below 2^41, and else fractions.
+/// It has room for 2^32 - 1 nodes, rows and columns: past that it answers want of memory.
 #[derive(Drop)]
 pub struct Cross {
     alloc: Global,

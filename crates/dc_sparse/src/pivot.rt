@@ -86,9 +86,9 @@ impl Scaled {
         let mut done = 0;
         let mut next = self.web.down_of(col, None);
         while let Some(node) = next {
-            let row = self.web.nodes[node].row;
+            let row = self.web.nodes[node].row();
             let number = self.web.nodes[node].value;
-            next = self.web.nodes[node].down;
+            next = self.web.nodes[node].down();
             if row != pivot {
                 if !self.reduce(row, pivot, col, number) {
                     return false;

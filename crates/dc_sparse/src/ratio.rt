@@ -40,7 +40,7 @@ impl Web {
         let mut done = 0;
         let mut next = self.down_of(col, None);
         while let Some(node) = next {
-            let row = self.nodes[node].row;
+            let row = self.nodes[node].row();
             if row >= basis.len() {
                 return Ok(row_of(best));
             }
@@ -53,7 +53,7 @@ impl Web {
                 best = Some(better(basis, Candidate { row, ratio }, best));
             }
             done = row + 1;
-            next = self.nodes[node].down;
+            next = self.nodes[node].down();
         }
         Ok(row_of(best))
     }
@@ -77,7 +77,7 @@ impl Web {
         ensures { IsNodeAt (nodes_of self.now) row col result }
     {
         let node = self.down_of(col, above)?;
-        if self.nodes[node].row == row {
+        if self.nodes[node].row() == row {
             Some(node)
         } else {
             None

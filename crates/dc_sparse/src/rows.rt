@@ -58,7 +58,7 @@ impl Web {
         let mut done = 0;
         let mut source = self.right_of(pivot, None);
         while let Some(node) = source {
-            let at = self.nodes[node].col;
+            let at = self.nodes[node].col();
             let by = self.nodes[node].value;
             left = self.left_of(row, at, left);
             let found = self.node_at(row, at, left);
@@ -75,7 +75,7 @@ impl Web {
                 }
             }
             done = at + 1;
-            source = self.nodes[node].right;
+            source = self.nodes[node].right();
         }
         Reduction { fits: true, small }
     }
@@ -96,13 +96,13 @@ impl Web {
         let mut done = 0;
         let mut next = self.right_of(row, None);
         while let Some(node) = next {
-            let at = self.nodes[node].col;
+            let at = self.nodes[node].col();
             match self.nodes[node].value.div(by) {
                 Some(quotient) => self.set(node, quotient),
                 None => return false,
             }
             done = at + 1;
-            next = self.nodes[node].right;
+            next = self.nodes[node].right();
         }
         true
     }
@@ -118,11 +118,11 @@ impl Web {
         let mut done = 0;
         let mut source = self.right_of(pivot, None);
         while let Some(node) = source {
-            let at = self.nodes[node].col;
+            let at = self.nodes[node].col();
             left = self.left_of(row, at, left);
             count += self.gap_at(row, at, left);
             done = at + 1;
-            source = self.nodes[node].right;
+            source = self.nodes[node].right();
         }
         count
     }
@@ -135,7 +135,7 @@ impl Web {
         let mut done = 0;
         let mut next = self.right_of(row, None);
         while let Some(node) = next {
-            let at = self.nodes[node].col;
+            let at = self.nodes[node].col();
             if at >= limit {
                 return None;
             }
@@ -143,7 +143,7 @@ impl Web {
                 return Some(at);
             }
             done = at + 1;
-            next = self.nodes[node].right;
+            next = self.nodes[node].right();
         }
         None
     }
@@ -170,12 +170,12 @@ impl Web {
         let mut done = 0;
         let mut next = self.down_of(col, None);
         while let Some(node) = next {
-            let row = self.nodes[node].row;
+            let row = self.nodes[node].row();
             if row != pivot {
                 count = count.checked_add(self.row_gaps(row, pivot))?;
             }
             done = row + 1;
-            next = self.nodes[node].down;
+            next = self.nodes[node].down();
         }
         Some(count)
     }
@@ -212,7 +212,7 @@ impl Web {
         let mut done = 0;
         let mut next = self.down_of(col, None);
         while let Some(node) = next {
-            let row = self.nodes[node].row;
+            let row = self.nodes[node].row();
             if row != pivot {
                 if left < across {
                     return false;
@@ -220,7 +220,7 @@ impl Web {
                 left -= across;
             }
             done = row + 1;
-            next = self.nodes[node].down;
+            next = self.nodes[node].down();
         }
         true
     }
@@ -235,8 +235,8 @@ impl Web {
         let mut next = self.right_of(row, None);
         while let Some(node) = next {
             count += 1;
-            done = self.nodes[node].col + 1;
-            next = self.nodes[node].right;
+            done = self.nodes[node].col() + 1;
+            next = self.nodes[node].right();
         }
         count
     }

@@ -43,12 +43,12 @@ impl Web {
         let mut done = 0;
         let mut next = self.right_of(row, None);
         while let Some(node) = next {
-            let at = self.nodes[node].col;
+            let at = self.nodes[node].col();
             if !is_small(&self.nodes[node].value) {
                 return false;
             }
             done = at + 1;
-            next = self.nodes[node].right;
+            next = self.nodes[node].right();
         }
         true
     }
@@ -62,7 +62,7 @@ impl Web {
         let mut done = 0;
         let mut next = self.right_of(row, None);
         while let Some(node) = next {
-            let at = self.nodes[node].col;
+            let at = self.nodes[node].col();
             match self.nodes[node].value.div(by) {
                 Some(part) => {
                     if !is_small(&part) {
@@ -72,7 +72,7 @@ impl Web {
                 None => return false,
             }
             done = at + 1;
-            next = self.nodes[node].right;
+            next = self.nodes[node].right();
         }
         true
     }
@@ -107,10 +107,10 @@ impl Web {
             if shared == 1 {
                 break;
             }
-            let at = self.nodes[node].col;
+            let at = self.nodes[node].col();
             shared = gcd128(self.nodes[node].value.num, shared);
             done = at + 1;
-            next = self.nodes[node].right;
+            next = self.nodes[node].right();
         }
         let share = Frac::whole(shared);
         if by.is_negative() { share.neg() } else { share }
@@ -125,10 +125,10 @@ impl Web {
         let mut done = 0;
         let mut next = self.right_of(row, None);
         while let Some(node) = next {
-            let at = self.nodes[node].col;
+            let at = self.nodes[node].col();
             common = joined(common, self.nodes[node].value.den)?;
             done = at + 1;
-            next = self.nodes[node].right;
+            next = self.nodes[node].right();
         }
         Some(Frac::new(1, common))
     }

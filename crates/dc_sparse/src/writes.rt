@@ -5,7 +5,7 @@ ghost use Rattle.std.specs.Prelude.{◌≡◌, ℕ, ◌+◌, ◌<◌, ◌≤◌,
 ghost use Rattle.dc_math.specs.Tests.{is_zero};
 ghost use Rattle.dc_frac.specs.Value.{value};
 ghost use Rattle.dc_sparse.specs.Lines.{IsLast};
-ghost use Rattle.dc_sparse.specs.Nodes.{row_at, col_at, is_live, IsIn, IsRelinkedRight, IsRelinkedDown, AreReheaded};
+ghost use Rattle.dc_sparse.specs.Nodes.{row_at, col_at, is_live, IsIn, IsLink, IsRelinkedRight, IsRelinkedDown, AreReheaded};
 ghost use Rattle.dc_sparse.specs.Webs.{IsVacant, IsPlaced, IsCleared};
 ghost use Rattle.dc_sparse.specs.Entries.{entry_at, StandsAt, IsNodeAt, IsPut, takes};
 ghost use Rattle.dc_sparse.specs.Sizes.{HasGrown};
@@ -129,15 +129,9 @@ impl Web {
         };
         let right = self.right_of(row, left);
         let down = self.down_of(col, above);
-        self.free = self.nodes[node].right;
+        self.free = self.nodes[node].right();
         self.spare -= 1;
-        self.nodes[node] = Node {
-            row,
-            col,
-            value: entry,
-            right,
-            down,
-        };
+        self.nodes[node] = Node::new(row, col, entry, right, down);
         link_right(&mut self.nodes, &mut self.row_heads, row, left, Some(node));
         link_down(&mut self.nodes, &mut self.col_heads, col, above, Some(node));
         node
@@ -155,26 +149,20 @@ impl Web {
         ensures width { width_of self.new ≡ width_of self.old }
     {
         let gone = self.nodes[node];
-        self.nodes[node] = Node {
-            row: self.spare,
-            col: 0,
-            value: Frac::whole(0),
-            right: self.free,
-            down: None,
-        };
+        self.nodes[node] = Node::new(self.spare, 0, Frac::whole(0), self.free, None);
         link_right(
             &mut self.nodes,
             &mut self.row_heads,
-            gone.row,
+            gone.row(),
             left,
-            gone.right,
+            gone.right(),
         );
         link_down(
             &mut self.nodes,
             &mut self.col_heads,
-            gone.col,
+            gone.col(),
             above,
-            gone.down,
+            gone.down(),
         );
         self.free = Some(node);
         self.spare += 1;
@@ -206,12 +194,13 @@ fn link_right(
 )
     requires row { row < length heads.old.items }
     requires before { IsIn nodes.old.items before }
+    requires to { IsLink to }
     ensures nodes { IsRelinkedRight nodes.old.items nodes.new.items before to }
     ensures heads { AreReheaded heads.old.items heads.new.items before row to }
 {
     match before {
         None => heads[row] = to,
-        Some(left) => nodes[left].right = to,
+        Some(left) => nodes[left].set_right(to),
     }
 }
 
@@ -225,11 +214,12 @@ fn link_down(
 )
     requires col { col < length heads.old.items }
     requires before { IsIn nodes.old.items before }
+    requires to { IsLink to }
     ensures nodes { IsRelinkedDown nodes.old.items nodes.new.items before to }
     ensures heads { AreReheaded heads.old.items heads.new.items before col to }
 {
     match before {
         None => heads[col] = to,
-        Some(above) => nodes[above].down = to,
+        Some(above) => nodes[above].set_down(to),
     }
 }

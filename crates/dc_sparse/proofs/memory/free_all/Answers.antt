@@ -1,4 +1,5 @@
-use Rattle.std.proofs.Common.{◌≡◌, ◌<◌, set, length, arith, None, refl}
+use Rattle.std.proofs.Common.{◌≡◌, ◌<◌, set, length, arith, ap, ◌∙◌}
+use Rattle.dc_frac.specs.Value.{value}
 use Rattle.dc_sparse.specs.declared.web.Node.{Node}
 use Rattle.dc_sparse.proofs.Cells.{written}
 use Rattle.dc_sparse.proofs.Blank.{freed_start, freed_more}
@@ -11,11 +12,11 @@ pub loop-node-preserved : goal.loop-node-preserved
 loop-node-preserved c =
     let xs = c.loop-node.nodes.items in
     let n = c.loop-node.node in
-    let x : Node = record { row = n; col = 0; value = c.whole.result; right = c.top.result; down = None } in
+    let x : Node = c.new.result in
     let h = c.loop-node.invariant in
     let s = h.size in
     let l : n < length xs = omega (arith, c.args.nodes.now.ok.0) in
-    freed_more xs (set xs n x) (length c.args.nodes.now.items) n x h (written xs n x l) refl c.whole.ensures c.top.ensures
+    freed_more xs (set xs n x) (length c.args.nodes.now.items) n x h (written xs n x l) c.new.ensures.row (ap value c.new.ensures.value ∙ c.whole.ensures) (c.new.ensures.right ∙ c.top.ensures.is)
 
 pub returns : goal.returns
 returns c =

@@ -71,7 +71,7 @@ reduce-requires-clause-row c =
     let a : AreDown (held_at s) (held_at t) w.nodes.items (length s.web.col_heads.items) c.args.pivot c.args.col s.web.spare w.spare c.loop-next.done (Some n) = rw c.in-Some.is at c.loop-next.invariant.down in
     let inside = item_live w.nodes.items n a.next.0.live in
     let in_table = (w.woven.within n a.next.0.live).0 in
-    let e : c.index.result.now.row ≡ row_at w.nodes.items n = row-read w.nodes.items n c.index.result.now inside c.index.ensures in
+    let e : c.row-row.result ≡ row_at w.nodes.items n = c.row-row.ensures ∙ row-read w.nodes.items n c.index.result.now inside c.index.ensures in
     omega arith
 
 pub reduce-requires-clause-number : goal.reduce-requires-clause-number
@@ -85,7 +85,7 @@ reduce-requires-clause-number c =
     let a : AreDown (held_at s) (held_at t) w.nodes.items (length s.web.col_heads.items) c.args.pivot c.args.col s.web.spare w.spare c.loop-next.done (Some n) = rw c.in-Some.is at c.loop-next.invariant.down in
     let inside = item_live w.nodes.items n a.next.0.live in
     let in_table = (w.woven.within n a.next.0.live).0 in
-    let e : c.index.result.now.row ≡ row_at w.nodes.items n = row-read w.nodes.items n c.index.result.now inside c.index.ensures in
+    let e : c.row-row.result ≡ row_at w.nodes.items n = c.row-row.ensures ∙ row-read w.nodes.items n c.index.result.now inside c.index.ensures in
     item-read w.nodes.items n c.index-in-Some.result.now inside c.index-in-Some.ensures
     ∙ sym (entry-node w.nodes.items n (row_at w.nodes.items n) c.args.col inside w.woven.apart (record { live = a.next.0.live; row = refl; col = a.next.0.line }))
     ∙ ap (λ i. entry_at w.nodes.items i c.args.col) (sym e)
@@ -117,7 +117,7 @@ reduce-requires-clause-spare c =
     let a : AreDown (held_at s) (held_at t) w.nodes.items (length s.web.col_heads.items) c.args.pivot c.args.col s.web.spare w.spare c.loop-next.done (Some n) = rw c.in-Some.is at c.loop-next.invariant.down in
     let inside = item_live w.nodes.items n a.next.0.live in
     let in_table = (w.woven.within n a.next.0.live).0 in
-    let e : c.index.result.now.row ≡ row_at w.nodes.items n = row-read w.nodes.items n c.index.result.now inside c.index.ensures in
+    let e : c.row-row.result ≡ row_at w.nodes.items n = c.row-row.ensures ∙ row-read w.nodes.items n c.index.result.now inside c.index.ensures in
     let r : gaps_in_row (held_at t) (row_at w.nodes.items n) c.args.pivot (length s.web.col_heads.items) ≤ w.spare =
     down_room (held_at s) (held_at t) w.nodes.items (λ i k. held-zero t i k) (length s.web.col_heads.items) c.args.pivot c.args.col s.web.spare w.spare c.loop-next.done n a (λ z. c.if-row-pivot.true (e ∙ z)) w.woven.apart inside (length s.web.row_heads.items) (omega arith) c.requires.spare in
     subst (λ k. gaps_in_row (held_at t) k c.args.pivot (length w.col_heads.items) ≤ w.spare) (sym e) (subst (λ k. gaps_in_row (held_at t) (row_at w.nodes.items n) c.args.pivot k ≤ w.spare) (sym wide) r)
@@ -133,8 +133,8 @@ returns-then-not-reduce-clause-fits c =
     let a : AreDown (held_at s) (held_at t) w.nodes.items (length s.web.col_heads.items) c.args.pivot c.args.col s.web.spare w.spare c.loop-next.done (Some n) = rw c.in-Some.is at c.loop-next.invariant.down in
     let inside = item_live w.nodes.items n a.next.0.live in
     let in_table = (w.woven.within n a.next.0.live).0 in
-    let e : c.index.result.now.row ≡ row_at w.nodes.items n = row-read w.nodes.items n c.index.result.now inside c.index.ensures in
-    let f : steps_fit (held_at t) (length w.col_heads.items) c.args.pivot c.args.col c.index.result.now.row ≡ false = sym c.reduce.ensures.fits ∙ c.if-not-reduce.true in
+    let e : c.row-row.result ≡ row_at w.nodes.items n = c.row-row.ensures ∙ row-read w.nodes.items n c.index.result.now inside c.index.ensures in
+    let f : steps_fit (held_at t) (length w.col_heads.items) c.args.pivot c.args.col c.row-row.result ≡ false = sym c.reduce.ensures.fits ∙ c.if-not-reduce.true in
     let g : steps_fit (held_at t) (length s.web.col_heads.items) c.args.pivot c.args.col (row_at w.nodes.items n) ≡ false =
     subst (λ k. steps_fit (held_at t) k c.args.pivot c.args.col (row_at w.nodes.items n) ≡ false) wide
     (subst (λ k. steps_fit (held_at t) (length w.col_heads.items) c.args.pivot c.args.col k ≡ false) e f) in
@@ -151,7 +151,7 @@ overflow_add-done c =
     let a : AreDown (held_at s) (held_at t) w.nodes.items (length s.web.col_heads.items) c.args.pivot c.args.col s.web.spare w.spare c.loop-next.done (Some n) = rw c.in-Some.is at c.loop-next.invariant.down in
     let inside = item_live w.nodes.items n a.next.0.live in
     let in_table = (w.woven.within n a.next.0.live).0 in
-    let e : c.index.result.now.row ≡ row_at w.nodes.items n = row-read w.nodes.items n c.index.result.now inside c.index.ensures in
+    let e : c.row-row.result ≡ row_at w.nodes.items n = c.row-row.ensures ∙ row-read w.nodes.items n c.index.result.now inside c.index.ensures in
     omega (arith, w.row_heads.ok.0)
 
 pub loop-next-smaller : goal.loop-next-smaller
@@ -165,7 +165,7 @@ loop-next-smaller c =
     let a : AreDown (held_at s) (held_at t) w.nodes.items (length s.web.col_heads.items) c.args.pivot c.args.col s.web.spare w.spare c.loop-next.done (Some n) = rw c.in-Some.is at c.loop-next.invariant.down in
     let inside = item_live w.nodes.items n a.next.0.live in
     let in_table = (w.woven.within n a.next.0.live).0 in
-    let e : c.index.result.now.row ≡ row_at w.nodes.items n = row-read w.nodes.items n c.index.result.now inside c.index.ensures in
+    let e : c.row-row.result ≡ row_at w.nodes.items n = c.row-row.ensures ∙ row-read w.nodes.items n c.index.result.now inside c.index.ensures in
     let le = a.next.0.place in
     omega arith
 
@@ -180,8 +180,8 @@ loop-next-preserved c =
     let a : AreDown (held_at s) (held_at t) w.nodes.items (length s.web.col_heads.items) c.args.pivot c.args.col s.web.spare w.spare c.loop-next.done (Some n) = rw c.in-Some.is at c.loop-next.invariant.down in
     let inside = item_live w.nodes.items n a.next.0.live in
     let in_table = (w.woven.within n a.next.0.live).0 in
-    let e : c.index.result.now.row ≡ row_at w.nodes.items n = row-read w.nodes.items n c.index.result.now inside c.index.ensures in
-    let ed : c.index-in-Some-2.result.now.down ≡ down_at w.nodes.items n = down-read w.nodes.items n c.index-in-Some-2.result.now inside c.index-in-Some-2.ensures in
+    let e : c.row-row.result ≡ row_at w.nodes.items n = c.row-row.ensures ∙ row-read w.nodes.items n c.index.result.now inside c.index.ensures in
+    let ed : c.down-next.result ≡ down_at w.nodes.items n = c.down-next.ensures.is ∙ down-read w.nodes.items n c.index-in-Some-2.result.now inside c.index-in-Some-2.ensures in
     elim c.if-row-pivot.branch [
       | then-row-pivot+else-not-reduce v ↦
           let newer = v.reduce.new.self in

@@ -43,7 +43,7 @@ overflow_add-done c =
     let f : IsFirst (by_rows w.nodes.items) c.args.row c.loop-next.done (Some n) = rw c.in-Some.is at c.loop-next.invariant.first in
     let inside = item_live w.nodes.items n f.0.live in
     let in_table = (w.woven.within n f.0.live).1 in
-    let e : c.index.result.now.col ≡ col_at w.nodes.items n = col-read w.nodes.items n c.index.result.now inside c.index.ensures in
+    let e : c.col-at.result ≡ col_at w.nodes.items n = c.col-at.ensures ∙ col-read w.nodes.items n c.index.result.now inside c.index.ensures in
     omega (arith, w.col_heads.ok.0)
 
 pub loop-next-smaller : goal.loop-next-smaller
@@ -53,7 +53,7 @@ loop-next-smaller c =
     let f : IsFirst (by_rows w.nodes.items) c.args.row c.loop-next.done (Some n) = rw c.in-Some.is at c.loop-next.invariant.first in
     let inside = item_live w.nodes.items n f.0.live in
     let in_table = (w.woven.within n f.0.live).1 in
-    let e : c.index.result.now.col ≡ col_at w.nodes.items n = col-read w.nodes.items n c.index.result.now inside c.index.ensures in
+    let e : c.col-at.result ≡ col_at w.nodes.items n = c.col-at.ensures ∙ col-read w.nodes.items n c.index.result.now inside c.index.ensures in
     let le = f.0.place in
     omega arith
 
@@ -64,8 +64,8 @@ loop-next-preserved c =
     let f : IsFirst (by_rows w.nodes.items) c.args.row c.loop-next.done (Some n) = rw c.in-Some.is at c.loop-next.invariant.first in
     let inside = item_live w.nodes.items n f.0.live in
     let in_table = (w.woven.within n f.0.live).1 in
-    let e : c.index.result.now.col ≡ col_at w.nodes.items n = col-read w.nodes.items n c.index.result.now inside c.index.ensures in
-    let right : c.index-in-Some-2.result.now.right ≡ right_at w.nodes.items n = right-read w.nodes.items n c.index-in-Some-2.result.now inside c.index-in-Some-2.ensures in
+    let e : c.col-at.result ≡ col_at w.nodes.items n = c.col-at.ensures ∙ col-read w.nodes.items n c.index.result.now inside c.index.ensures in
+    let right : c.right-next.result ≡ right_at w.nodes.items n = c.right-next.ensures.is ∙ right-read w.nodes.items n c.index-in-Some-2.result.now inside c.index-in-Some-2.ensures in
     let f₁ : SFits w128 c.in_ok-common.common = search rules in
     record {
       positive = simp to_z-of_z c.in_ok-common.ensures;

@@ -45,7 +45,7 @@ returns-then-at-limit c =
     let f : IsFirst (by_rows w.nodes.items) c.args.row c.loop-next.done (Some n) = rw c.in-Some.is at c.loop-next.invariant.first in
     let inside = item_live w.nodes.items n f.0.live in
     let in_table = (w.woven.within n f.0.live).1 in
-    let e : c.index.result.now.col ≡ col_at w.nodes.items n = col-read w.nodes.items n c.index.result.now inside c.index.ensures in
+    let e : c.col-at.result ≡ col_at w.nodes.items n = c.col-at.ensures ∙ col-read w.nodes.items n c.index.result.now inside c.index.ensures in
     none_on w.nodes.items c.args.row c.loop-next.done c.args.limit (Some n) f c.loop-next.invariant.none (λ m q. (let same : col_at w.nodes.items n ≡ col_at w.nodes.items m = cc in let t = c.if-at-limit.true in omega arith))
 
 pub returns-then-is_negative : goal.returns-then-is_negative
@@ -55,7 +55,7 @@ returns-then-is_negative c =
     let f : IsFirst (by_rows w.nodes.items) c.args.row c.loop-next.done (Some n) = rw c.in-Some.is at c.loop-next.invariant.first in
     let inside = item_live w.nodes.items n f.0.live in
     let in_table = (w.woven.within n f.0.live).1 in
-    let e : c.index.result.now.col ≡ col_at w.nodes.items n = col-read w.nodes.items n c.index.result.now inside c.index.ensures in
+    let e : c.col-at.result ≡ col_at w.nodes.items n = c.col-at.ensures ∙ col-read w.nodes.items n c.index.result.now inside c.index.ensures in
     let ev : value c.index-in-Some.result.now.value ≡ entry_at w.nodes.items c.args.row (col_at w.nodes.items n) =
     item-read w.nodes.items n c.index-in-Some.result.now inside c.index-in-Some.ensures ∙ sym (entry-node w.nodes.items n c.args.row (col_at w.nodes.items n) inside w.woven.apart (record { live = f.0.live; row = f.0.line; col = refl })) in
     let none : NoneNegative w.nodes.items c.args.row (col_at w.nodes.items n) = none_on w.nodes.items c.args.row c.loop-next.done (col_at w.nodes.items n) (Some n) f c.loop-next.invariant.none (λ m q. (let same : col_at w.nodes.items n ≡ col_at w.nodes.items m = cc in omega arith)) in
@@ -68,7 +68,7 @@ loop-next-smaller c =
     let f : IsFirst (by_rows w.nodes.items) c.args.row c.loop-next.done (Some n) = rw c.in-Some.is at c.loop-next.invariant.first in
     let inside = item_live w.nodes.items n f.0.live in
     let in_table = (w.woven.within n f.0.live).1 in
-    let e : c.index.result.now.col ≡ col_at w.nodes.items n = col-read w.nodes.items n c.index.result.now inside c.index.ensures in
+    let e : c.col-at.result ≡ col_at w.nodes.items n = c.col-at.ensures ∙ col-read w.nodes.items n c.index.result.now inside c.index.ensures in
     let le = f.0.place in
     omega arith
 
@@ -79,11 +79,11 @@ loop-next-preserved c =
     let f : IsFirst (by_rows w.nodes.items) c.args.row c.loop-next.done (Some n) = rw c.in-Some.is at c.loop-next.invariant.first in
     let inside = item_live w.nodes.items n f.0.live in
     let in_table = (w.woven.within n f.0.live).1 in
-    let e : c.index.result.now.col ≡ col_at w.nodes.items n = col-read w.nodes.items n c.index.result.now inside c.index.ensures in
+    let e : c.col-at.result ≡ col_at w.nodes.items n = c.col-at.ensures ∙ col-read w.nodes.items n c.index.result.now inside c.index.ensures in
     let ev : value c.index-in-Some.result.now.value ≡ entry_at w.nodes.items c.args.row (col_at w.nodes.items n) =
     item-read w.nodes.items n c.index-in-Some.result.now inside c.index-in-Some.ensures ∙ sym (entry-node w.nodes.items n c.args.row (col_at w.nodes.items n) inside w.woven.apart (record { live = f.0.live; row = f.0.line; col = refl })) in
     let none : NoneNegative w.nodes.items c.args.row (col_at w.nodes.items n) = none_on w.nodes.items c.args.row c.loop-next.done (col_at w.nodes.items n) (Some n) f c.loop-next.invariant.none (λ m q. (let same : col_at w.nodes.items n ≡ col_at w.nodes.items m = cc in omega arith)) in
-    let right : c.index-in-Some-2.result.now.right ≡ right_at w.nodes.items n = right-read w.nodes.items n c.index-in-Some-2.result.now inside c.index-in-Some-2.ensures in
+    let right : c.right-next.result ≡ right_at w.nodes.items n = c.right-next.ensures.is ∙ right-read w.nodes.items n c.index-in-Some-2.result.now inside c.index-in-Some-2.ensures in
     record {
       none = rw e (none_more w.nodes.items c.args.row (col_at w.nodes.items n) none (ap is_negative (sym ev) ∙ sym c.is_negative.ensures ∙ c.if-is_negative.false));
       first = rw (e, right) (next_first (by_rows w.nodes.items) (length w.row_heads.items) (head_at w.row_heads.items) c.args.row n w.woven.rows (f.0.live, f.0.line));

@@ -46,7 +46,7 @@ overflow_add-done c =
     let f : IsFirst (by_rows w.nodes.items) c.args.row c.loop-next.done (Some n) = rw c.in-Some.is at c.loop-next.invariant.first in
     let inside = item_live w.nodes.items n f.0.live in
     let in_table = (w.woven.within n f.0.live).1 in
-    let e : c.index.result.now.col ≡ col_at w.nodes.items n = col-read w.nodes.items n c.index.result.now inside c.index.ensures in
+    let e : c.col-at.result ≡ col_at w.nodes.items n = c.col-at.ensures ∙ col-read w.nodes.items n c.index.result.now inside c.index.ensures in
     omega (arith, w.col_heads.ok.0)
 
 pub loop-next-smaller : goal.loop-next-smaller
@@ -56,7 +56,7 @@ loop-next-smaller c =
     let f : IsFirst (by_rows w.nodes.items) c.args.row c.loop-next.done (Some n) = rw c.in-Some.is at c.loop-next.invariant.first in
     let inside = item_live w.nodes.items n f.0.live in
     let in_table = (w.woven.within n f.0.live).1 in
-    let e : c.index.result.now.col ≡ col_at w.nodes.items n = col-read w.nodes.items n c.index.result.now inside c.index.ensures in
+    let e : c.col-at.result ≡ col_at w.nodes.items n = c.col-at.ensures ∙ col-read w.nodes.items n c.index.result.now inside c.index.ensures in
     let le = f.0.place in
     omega arith
 
@@ -67,8 +67,8 @@ loop-next-preserved c =
     let f : IsFirst (by_rows w.nodes.items) c.args.row c.loop-next.done (Some n) = rw c.in-Some.is at c.loop-next.invariant.first in
     let inside = item_live w.nodes.items n f.0.live in
     let in_table = (w.woven.within n f.0.live).1 in
-    let e : c.index.result.now.col ≡ col_at w.nodes.items n = col-read w.nodes.items n c.index.result.now inside c.index.ensures in
-    let right : c.index-in-Some-2.result.now.right ≡ right_at w.nodes.items n = right-read w.nodes.items n c.index-in-Some-2.result.now inside c.index-in-Some-2.ensures in
+    let e : c.col-at.result ≡ col_at w.nodes.items n = c.col-at.ensures ∙ col-read w.nodes.items n c.index.result.now inside c.index.ensures in
+    let right : c.right-next.result ≡ right_at w.nodes.items n = c.right-next.ensures.is ∙ right-read w.nodes.items n c.index-in-Some-2.result.now inside c.index-in-Some-2.ensures in
     let ev : value c.index-in-Some.result.now.value ≡ entry_at w.nodes.items c.args.row (col_at w.nodes.items n) =
     item-read w.nodes.items n c.index-in-Some.result.now inside c.index-in-Some.ensures ∙ sym (entry-node w.nodes.items n c.args.row (col_at w.nodes.items n) inside w.woven.apart (record { live = f.0.live; row = f.0.line; col = refl })) in
     let p : IsPart (entry_at w.nodes.items c.args.row (col_at w.nodes.items n)) (value c.args.by) = subst (λ (x : ℚ). IsPart x (value c.args.by)) ev (record {

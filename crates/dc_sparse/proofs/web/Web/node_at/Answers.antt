@@ -15,16 +15,16 @@ index-requires c =
     let l = item_live w.nodes.items c.in_ok-node.node f.0.live in
     omega (arith, w.nodes.ok.0)
 
-pub returns-then-index-col : goal.returns-then-index-col
-returns-then-index-col c =
+pub returns-then-col : goal.returns-then-col
+returns-then-col c =
     let w = c.args.self.now in
     let f : IsFirst (by_rows w.nodes.items) c.args.row (place_after (by_rows w.nodes.items) c.args.left) (Some c.in_ok-node.node) = c.in_ok-node.ensures in
-    let e = col-read w.nodes.items c.in_ok-node.node c.index.result.now (item_live w.nodes.items c.in_ok-node.node f.0.live) c.index.ensures in
-    first_is w.nodes.items c.args.row c.args.col c.args.left c.in_ok-node.node c.requires.left f (let t = c.if-index-col.true in omega arith)
+    let e = c.col.ensures ∙ col-read w.nodes.items c.in_ok-node.node c.index.result.now (item_live w.nodes.items c.in_ok-node.node f.0.live) c.index.ensures in
+    first_is w.nodes.items c.args.row c.args.col c.args.left c.in_ok-node.node c.requires.left f (let t = c.if-col.true in omega arith)
 
-pub returns-else-index-col : goal.returns-else-index-col
-returns-else-index-col c =
+pub returns-else-col : goal.returns-else-col
+returns-else-col c =
     let w = c.args.self.now in
     let f : IsFirst (by_rows w.nodes.items) c.args.row (place_after (by_rows w.nodes.items) c.args.left) (Some c.in_ok-node.node) = c.in_ok-node.ensures in
-    let e = col-read w.nodes.items c.in_ok-node.node c.index.result.now (item_live w.nodes.items c.in_ok-node.node f.0.live) c.index.ensures in
-    first_isnt w.nodes.items c.args.row c.args.col c.args.left c.in_ok-node.node c.requires.left f (let t = c.if-index-col.false in λ q. t (e ∙ q))
+    let e = c.col.ensures ∙ col-read w.nodes.items c.in_ok-node.node c.index.result.now (item_live w.nodes.items c.in_ok-node.node f.0.live) c.index.ensures in
+    first_isnt w.nodes.items c.args.row c.args.col c.args.left c.in_ok-node.node c.requires.left f (let t = c.if-col.false in λ q. t (e ∙ q))

@@ -15,16 +15,16 @@ index-requires c =
     let l = item_live w.nodes.items c.in_ok-node.node f.0.live in
     omega (arith, w.nodes.ok.0)
 
-pub returns-then-index-row : goal.returns-then-index-row
-returns-then-index-row c =
+pub returns-then-row : goal.returns-then-row
+returns-then-row c =
     let w = c.args.self.now in
     let f : IsFirst (by_columns w.nodes.items) c.args.col (place_after (by_columns w.nodes.items) c.args.above) (Some c.in_ok-node.node) = c.in_ok-node.ensures in
-    let e = row-read w.nodes.items c.in_ok-node.node c.index.result.now (item_live w.nodes.items c.in_ok-node.node f.0.live) c.index.ensures in
-    below_is w.nodes.items c.args.row c.args.col c.args.above c.in_ok-node.node c.requires.above f (let t = c.if-index-row.true in omega arith)
+    let e = c.row.ensures ∙ row-read w.nodes.items c.in_ok-node.node c.index.result.now (item_live w.nodes.items c.in_ok-node.node f.0.live) c.index.ensures in
+    below_is w.nodes.items c.args.row c.args.col c.args.above c.in_ok-node.node c.requires.above f (let t = c.if-row.true in omega arith)
 
-pub returns-else-index-row : goal.returns-else-index-row
-returns-else-index-row c =
+pub returns-else-row : goal.returns-else-row
+returns-else-row c =
     let w = c.args.self.now in
     let f : IsFirst (by_columns w.nodes.items) c.args.col (place_after (by_columns w.nodes.items) c.args.above) (Some c.in_ok-node.node) = c.in_ok-node.ensures in
-    let e = row-read w.nodes.items c.in_ok-node.node c.index.result.now (item_live w.nodes.items c.in_ok-node.node f.0.live) c.index.ensures in
-    below_isnt w.nodes.items c.args.row c.args.col c.args.above c.in_ok-node.node c.requires.above f (let t = c.if-index-row.false in λ q. t (e ∙ q))
+    let e = c.row.ensures ∙ row-read w.nodes.items c.in_ok-node.node c.index.result.now (item_live w.nodes.items c.in_ok-node.node f.0.live) c.index.ensures in
+    below_isnt w.nodes.items c.args.row c.args.col c.args.above c.in_ok-node.node c.requires.above f (let t = c.if-row.false in λ q. t (e ∙ q))

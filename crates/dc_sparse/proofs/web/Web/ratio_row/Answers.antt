@@ -53,7 +53,7 @@ returns-then-row-basis c t h =
     let n = c.in-Some.node in
     let f : IsFirst (by_columns w.nodes.items) c.args.col c.loop-next.done (Some n) = rw c.in-Some.is at c.loop-next.invariant.next in
     let inside = item_live w.nodes.items n f.0.live in
-    let e : c.index.result.now.row ≡ row_at w.nodes.items n = row-read w.nodes.items n c.index.result.now inside c.index.ensures in
+    let e : c.row-row.result ≡ row_at w.nodes.items n = c.row-row.ensures ∙ row-read w.nodes.items n c.index.result.now inside c.index.ensures in
     ap (λ o. Ok o) c.row_of.ensures
     ∙ seek_ends t c.args.columns c.args.basis.now w.nodes.items c.args.col h c.loop-next.done c.loop-next.best (Some n) (c.loop-next.invariant.best t h) f c.loop-next.invariant.within
     (λ m q. (let same : row_at w.nodes.items n ≡ row_at w.nodes.items m = cc in let l = c.if-row-basis.true in omega arith))
@@ -64,9 +64,9 @@ above_of-above-requires-clause-from c =
     let n = c.in-Some.node in
     let f : IsFirst (by_columns w.nodes.items) c.args.col c.loop-next.done (Some n) = rw c.in-Some.is at c.loop-next.invariant.next in
     let inside = item_live w.nodes.items n f.0.live in
-    let e : c.index.result.now.row ≡ row_at w.nodes.items n = row-read w.nodes.items n c.index.result.now inside c.index.ensures in
+    let e : c.row-row.result ≡ row_at w.nodes.items n = c.row-row.ensures ∙ row-read w.nodes.items n c.index.result.now inside c.index.ensures in
     let le = f.0.place in
-    stands_later (by_columns w.nodes.items) (c.args.columns + length c.args.basis.now) c.loop-next.done c.index.result.now.row c.loop-next.above (omega arith) c.loop-next.invariant.stop
+    stands_later (by_columns w.nodes.items) (c.args.columns + length c.args.basis.now) c.loop-next.done c.row-row.result c.loop-next.above (omega arith) c.loop-next.invariant.stop
 
 pub returns-in_default-div : goal.returns-in_default-div
 returns-in_default-div c t h =
@@ -74,7 +74,7 @@ returns-in_default-div c t h =
     let n = c.in-Some.node in
     let f : IsFirst (by_columns w.nodes.items) c.args.col c.loop-next.done (Some n) = rw c.in-Some.is at c.loop-next.invariant.next in
     let inside = item_live w.nodes.items n f.0.live in
-    let e : c.index.result.now.row ≡ row_at w.nodes.items n = row-read w.nodes.items n c.index.result.now inside c.index.ensures in
+    let e : c.row-row.result ≡ row_at w.nodes.items n = c.row-row.ensures ∙ row-read w.nodes.items n c.index.result.now inside c.index.ensures in
     let v : value c.index-in-Some.result.now.value ≡ item w.nodes.items n = item-read w.nodes.items n c.index-in-Some.result.now inside c.index-in-Some.ensures in
     let lower : row_at w.nodes.items n < length c.args.basis.now = (let l = c.if-row-basis.false in omega arith) in
     let k = c.args.columns + length c.args.basis.now in
@@ -96,7 +96,7 @@ loop-next-smaller c =
     let n = c.in-Some.node in
     let f : IsFirst (by_columns w.nodes.items) c.args.col c.loop-next.done (Some n) = rw c.in-Some.is at c.loop-next.invariant.next in
     let inside = item_live w.nodes.items n f.0.live in
-    let e : c.index.result.now.row ≡ row_at w.nodes.items n = row-read w.nodes.items n c.index.result.now inside c.index.ensures in
+    let e : c.row-row.result ≡ row_at w.nodes.items n = c.row-row.ensures ∙ row-read w.nodes.items n c.index.result.now inside c.index.ensures in
     let le = f.0.place in
     let l = c.if-row-basis.false in
     omega arith
@@ -107,11 +107,11 @@ loop-next-preserved c =
     let n = c.in-Some.node in
     let f : IsFirst (by_columns w.nodes.items) c.args.col c.loop-next.done (Some n) = rw c.in-Some.is at c.loop-next.invariant.next in
     let inside = item_live w.nodes.items n f.0.live in
-    let e : c.index.result.now.row ≡ row_at w.nodes.items n = row-read w.nodes.items n c.index.result.now inside c.index.ensures in
+    let e : c.row-row.result ≡ row_at w.nodes.items n = c.row-row.ensures ∙ row-read w.nodes.items n c.index.result.now inside c.index.ensures in
     let v : value c.index-in-Some.result.now.value ≡ item w.nodes.items n = item-read w.nodes.items n c.index-in-Some.result.now inside c.index-in-Some.ensures in
     let lower : row_at w.nodes.items n < length c.args.basis.now = (let l = c.if-row-basis.false in omega arith) in
     let k = c.args.columns + length c.args.basis.now in
-    let down : c.index-in-Some-2.result.now.down ≡ down_at w.nodes.items n = down-read w.nodes.items n c.index-in-Some-2.result.now inside c.index-in-Some-2.ensures in
+    let down : c.down-next.result ≡ down_at w.nodes.items n = c.down-next.ensures.is ∙ down-read w.nodes.items n c.index-in-Some-2.result.now inside c.index-in-Some-2.ensures in
     record {
       best = λ t h. elim c.if-is_positive.branch [
         | then-is_positive+in-Some-div u ↦
@@ -119,13 +119,13 @@ loop-next-preserved c =
             let r : x ≡ entry_at w.nodes.items (row_at w.nodes.items n) k = u.entry_below.ensures ∙ ap (λ i. entry_at w.nodes.items i k) e in
             let positive : is_positive (item w.nodes.items n) ≡ true = ap is_positive (sym v) ∙ sym c.is_positive.ensures ∙ u.if-is_positive.true in
             let fits : quotient_fits x (item w.nodes.items n) ≡ true = ap (quotient_fits x) (sym v) ∙ u.in-Some-div.ensures.0 in
-            let here = seek_candidate t c.args.columns c.args.basis.now w.nodes.items c.args.col h c.loop-next.done n c.loop-next.best (c.loop-next.invariant.best t h) f inside w.woven.apart lower x r positive (record { row = c.index.result.now.row; ratio = u.in-Some-div.ratio }) e (u.in-Some-div.ensures.1 ∙ ap (λ y. x /ℚ y) v) in
-            let b : IsBetter t c.args.col (record { row = c.index.result.now.row; ratio = u.in-Some-div.ratio }) c.loop-next.best u.better.result = u.better.ensures t c.args.col h.basic here (c.loop-next.invariant.best t h).candidates in
+            let here = seek_candidate t c.args.columns c.args.basis.now w.nodes.items c.args.col h c.loop-next.done n c.loop-next.best (c.loop-next.invariant.best t h) f inside w.woven.apart lower x r positive (record { row = c.row-row.result; ratio = u.in-Some-div.ratio }) e (u.in-Some-div.ensures.1 ∙ ap (λ y. x /ℚ y) v) in
+            let b : IsBetter t c.args.col (record { row = c.row-row.result; ratio = u.in-Some-div.ratio }) c.loop-next.best u.better.result = u.better.ensures t c.args.col h.basic here (c.loop-next.invariant.best t h).candidates in
             rw (u.best-is, e) (seek_more t c.args.columns c.args.basis.now w.nodes.items c.args.col h c.loop-next.done n c.loop-next.best (c.loop-next.invariant.best t h) f inside w.woven.apart lower x r positive u.better.result fits b.candidate (b.row ∙ ap (λ i. better t c.args.col i (row_of c.loop-next.best)) e))
         | else-is_positive u ↦ rw (u.best-is, e) (seek_skip t c.args.columns c.args.basis.now w.nodes.items c.args.col h c.loop-next.done n c.loop-next.best (c.loop-next.invariant.best t h) f inside w.woven.apart lower (ap is_positive (sym v) ∙ sym c.is_positive.ensures ∙ u.if-is_positive.false))
       ];
       next = rw (e, down) (next_first (by_columns w.nodes.items) (length w.col_heads.items) (head_at w.col_heads.items) c.args.col n w.woven.columns (f.0.live, f.0.line));
-      stop = last_later (by_columns w.nodes.items) k c.index.result.now.row c.above_of-above.result c.above_of-above.ensures;
+      stop = last_later (by_columns w.nodes.items) k c.row-row.result c.above_of-above.result c.above_of-above.ensures;
       within = omega arith;
     }
 

@@ -47,7 +47,7 @@ left_of-left-requires-clause-from c =
     let n = c.in-Some.node in
     let a : IsAlong c.args.self.now.nodes.items w.nodes.items c.args.row c.args.pivot c.args.col (value c.args.factor) c.args.self.now.spare w.spare c.loop-source.done (Some n) c.loop-source.left = rw c.in-Some.is at c.loop-source.invariant.along in
     let inside = item_live w.nodes.items n a.next.0.live in
-    let e : c.index.result.now.col ≡ col_at w.nodes.items n = col-read w.nodes.items n c.index.result.now inside c.index.ensures in
+    let e : c.col-at.result ≡ col_at w.nodes.items n = c.col-at.ensures ∙ col-read w.nodes.items n c.index.result.now inside c.index.ensures in
     subst (λ k. StandsBefore (by_rows w.nodes.items) c.args.row k c.loop-source.left) (sym e) (along_stop c.args.self.now.nodes.items w.nodes.items c.args.row c.args.pivot c.args.col (value c.args.factor) c.args.self.now.spare w.spare c.loop-source.done n c.loop-source.left a c.requires.other c.requires.entry w.woven.apart inside)
 
 pub put-requires-clause-col : goal.put-requires-clause-col
@@ -56,7 +56,7 @@ put-requires-clause-col c =
     let n = c.in-Some.node in
     let a : IsAlong c.args.self.now.nodes.items w.nodes.items c.args.row c.args.pivot c.args.col (value c.args.factor) c.args.self.now.spare w.spare c.loop-source.done (Some n) c.loop-source.left = rw c.in-Some.is at c.loop-source.invariant.along in
     let inside = item_live w.nodes.items n a.next.0.live in
-    let e : c.index.result.now.col ≡ col_at w.nodes.items n = col-read w.nodes.items n c.index.result.now inside c.index.ensures in
+    let e : c.col-at.result ≡ col_at w.nodes.items n = c.col-at.ensures ∙ col-read w.nodes.items n c.index.result.now inside c.index.ensures in
     let width = c.loop-source.invariant.width in
     let in_table = (w.woven.within n a.next.0.live).1 in
     omega arith
@@ -67,7 +67,7 @@ put-requires-clause-spare c =
     let n = c.in-Some.node in
     let a : IsAlong c.args.self.now.nodes.items w.nodes.items c.args.row c.args.pivot c.args.col (value c.args.factor) c.args.self.now.spare w.spare c.loop-source.done (Some n) c.loop-source.left = rw c.in-Some.is at c.loop-source.invariant.along in
     let inside = item_live w.nodes.items n a.next.0.live in
-    let e : c.index.result.now.col ≡ col_at w.nodes.items n = col-read w.nodes.items n c.index.result.now inside c.index.ensures in
+    let e : c.col-at.result ≡ col_at w.nodes.items n = c.col-at.ensures ∙ col-read w.nodes.items n c.index.result.now inside c.index.ensures in
     let width = c.loop-source.invariant.width in
     let in_table = (w.woven.within n a.next.0.live).1 in
     subst (λ k. takes (entry_at w.nodes.items c.args.row k) (value c.in-Some-entry_after.entry) ≤ w.spare) (sym e)
@@ -79,11 +79,11 @@ returns-in-None-clause-fits c =
     let n = c.in-Some.node in
     let a : IsAlong c.args.self.now.nodes.items w.nodes.items c.args.row c.args.pivot c.args.col (value c.args.factor) c.args.self.now.spare w.spare c.loop-source.done (Some n) c.loop-source.left = rw c.in-Some.is at c.loop-source.invariant.along in
     let inside = item_live w.nodes.items n a.next.0.live in
-    let e : c.index.result.now.col ≡ col_at w.nodes.items n = col-read w.nodes.items n c.index.result.now inside c.index.ensures in
+    let e : c.col-at.result ≡ col_at w.nodes.items n = c.col-at.ensures ∙ col-read w.nodes.items n c.index.result.now inside c.index.ensures in
     let by : value c.index-in-Some.result.now.value ≡ item w.nodes.items n = item-read w.nodes.items n c.index-in-Some.result.now inside c.index-in-Some.ensures in
     let width = c.loop-source.invariant.width in
     let in_table = (w.woven.within n a.next.0.live).1 in
-    let f : (c.index.result.now.col == c.args.col || step_fits (value c.args.factor) (value c.index-in-Some.result.now.value) (entry_at w.nodes.items c.args.row c.index.result.now.col)) ≡ false = c.in-None.ensures in
+    let f : (c.col-at.result == c.args.col || step_fits (value c.args.factor) (value c.index-in-Some.result.now.value) (entry_at w.nodes.items c.args.row c.col-at.result)) ≡ false = c.in-None.ensures in
     let g : (col_at w.nodes.items n == c.args.col || step_fits (value c.args.factor) (item w.nodes.items n) (entry_at w.nodes.items c.args.row (col_at w.nodes.items n))) ≡ false =
     subst (λ (x : ℚ). (col_at w.nodes.items n == c.args.col || step_fits (value c.args.factor) x (entry_at w.nodes.items c.args.row (col_at w.nodes.items n))) ≡ false) by
     (subst (λ (k : ℕ). (k == c.args.col || step_fits (value c.args.factor) (value c.index-in-Some.result.now.value) (entry_at w.nodes.items c.args.row k)) ≡ false) e f) in
@@ -95,7 +95,7 @@ overflow_add-done c =
     let n = c.in-Some.node in
     let a : IsAlong c.args.self.now.nodes.items w.nodes.items c.args.row c.args.pivot c.args.col (value c.args.factor) c.args.self.now.spare w.spare c.loop-source.done (Some n) c.loop-source.left = rw c.in-Some.is at c.loop-source.invariant.along in
     let inside = item_live w.nodes.items n a.next.0.live in
-    let e : c.index.result.now.col ≡ col_at w.nodes.items n = col-read w.nodes.items n c.index.result.now inside c.index.ensures in
+    let e : c.col-at.result ≡ col_at w.nodes.items n = c.col-at.ensures ∙ col-read w.nodes.items n c.index.result.now inside c.index.ensures in
     let width = c.loop-source.invariant.width in
     let in_table = (w.woven.within n a.next.0.live).1 in
     omega (arith, w.col_heads.ok.0)
@@ -106,7 +106,7 @@ index-requires-in-Some-2 c =
     let n = c.in-Some.node in
     let a : IsAlong c.args.self.now.nodes.items w.nodes.items c.args.row c.args.pivot c.args.col (value c.args.factor) c.args.self.now.spare w.spare c.loop-source.done (Some n) c.loop-source.left = rw c.in-Some.is at c.loop-source.invariant.along in
     let inside = item_live w.nodes.items n a.next.0.live in
-    let e : c.index.result.now.col ≡ col_at w.nodes.items n = col-read w.nodes.items n c.index.result.now inside c.index.ensures in
+    let e : c.col-at.result ≡ col_at w.nodes.items n = c.col-at.ensures ∙ col-read w.nodes.items n c.index.result.now inside c.index.ensures in
     let p : IsPut w.nodes.items c.put.new.self.nodes.items c.args.row (col_at w.nodes.items n) (value c.in-Some-entry_after.entry) = subst (λ k. IsPut w.nodes.items c.put.new.self.nodes.items c.args.row k (value c.in-Some-entry_after.entry)) e c.put.ensures.entry in
     let s = p.stays n c.args.pivot (col_at w.nodes.items n) (λ z _. c.requires.other z) (along_stands c.args.self.now.nodes.items w.nodes.items c.args.row c.args.pivot c.args.col (value c.args.factor) c.args.self.now.spare w.spare c.loop-source.done n c.loop-source.left a c.requires.other c.requires.entry) in
     let l = item_live c.put.new.self.nodes.items n s.live in
@@ -118,7 +118,7 @@ loop-source-smaller c =
     let n = c.in-Some.node in
     let a : IsAlong c.args.self.now.nodes.items w.nodes.items c.args.row c.args.pivot c.args.col (value c.args.factor) c.args.self.now.spare w.spare c.loop-source.done (Some n) c.loop-source.left = rw c.in-Some.is at c.loop-source.invariant.along in
     let inside = item_live w.nodes.items n a.next.0.live in
-    let e : c.index.result.now.col ≡ col_at w.nodes.items n = col-read w.nodes.items n c.index.result.now inside c.index.ensures in
+    let e : c.col-at.result ≡ col_at w.nodes.items n = c.col-at.ensures ∙ col-read w.nodes.items n c.index.result.now inside c.index.ensures in
     let width = c.loop-source.invariant.width in
     let in_table = (w.woven.within n a.next.0.live).1 in
     let le = a.next.0.place in
@@ -130,7 +130,7 @@ loop-source-preserved c =
     let n = c.in-Some.node in
     let a : IsAlong c.args.self.now.nodes.items w.nodes.items c.args.row c.args.pivot c.args.col (value c.args.factor) c.args.self.now.spare w.spare c.loop-source.done (Some n) c.loop-source.left = rw c.in-Some.is at c.loop-source.invariant.along in
     let inside = item_live w.nodes.items n a.next.0.live in
-    let e : c.index.result.now.col ≡ col_at w.nodes.items n = col-read w.nodes.items n c.index.result.now inside c.index.ensures in
+    let e : c.col-at.result ≡ col_at w.nodes.items n = c.col-at.ensures ∙ col-read w.nodes.items n c.index.result.now inside c.index.ensures in
     let by : value c.index-in-Some.result.now.value ≡ item w.nodes.items n = item-read w.nodes.items n c.index-in-Some.result.now inside c.index-in-Some.ensures in
     let width = c.loop-source.invariant.width in
     let in_table = (w.woven.within n a.next.0.live).1 in
@@ -139,7 +139,7 @@ loop-source-preserved c =
     let p : IsPut w.nodes.items newer.nodes.items c.args.row (col_at w.nodes.items n) v = subst (λ k. IsPut w.nodes.items newer.nodes.items c.args.row k v) e c.put.ensures.entry in
     let q : w.spare ≤ newer.spare + takes (entry_at w.nodes.items c.args.row (col_at w.nodes.items n)) v = subst (λ k. w.spare ≤ newer.spare + takes (entry_at w.nodes.items c.args.row k) v) e (let b = c.put.ensures.spare in omega arith) in
     let l : IsLast (by_rows w.nodes.items) c.args.row (col_at w.nodes.items n) c.left_of-left.result = subst (λ k. IsLast (by_rows w.nodes.items) c.args.row k c.left_of-left.result) e c.left_of-left.ensures in
-    let f : (c.index.result.now.col == c.args.col || step_fits (value c.args.factor) (value c.index-in-Some.result.now.value) (entry_at w.nodes.items c.args.row c.index.result.now.col)) ≡ true = c.in-Some-entry_after.ensures.0 in
+    let f : (c.col-at.result == c.args.col || step_fits (value c.args.factor) (value c.index-in-Some.result.now.value) (entry_at w.nodes.items c.args.row c.col-at.result)) ≡ true = c.in-Some-entry_after.ensures.0 in
     let g : (col_at w.nodes.items n == c.args.col || step_fits (value c.args.factor) (item w.nodes.items n) (entry_at w.nodes.items c.args.row (col_at w.nodes.items n))) ≡ true =
     subst (λ (x : ℚ). (col_at w.nodes.items n == c.args.col || step_fits (value c.args.factor) x (entry_at w.nodes.items c.args.row (col_at w.nodes.items n))) ≡ true) by
     (subst (λ (k : ℕ). (k == c.args.col || step_fits (value c.args.factor) (value c.index-in-Some.result.now.value) (entry_at w.nodes.items c.args.row k)) ≡ true) e f) in
@@ -148,7 +148,7 @@ loop-source-preserved c =
     (subst (λ (k : ℕ). v ≡ reduced_entry k c.args.col (value c.args.factor) (value c.index-in-Some.result.now.value) (entry_at w.nodes.items c.args.row k)) e c.in-Some-entry_after.ensures.1) in
     let s = along_step c.args.self.now.nodes.items w.nodes.items c.args.row c.args.pivot c.args.col (value c.args.factor) c.args.self.now.spare w.spare c.loop-source.done n c.loop-source.left a c.requires.other c.requires.entry w.woven.apart inside newer.nodes.items newer.spare v c.left_of-left.result (length newer.row_heads.items) (head_at newer.row_heads.items) g r p q l newer.woven.rows in
     let t = p.stays n c.args.pivot (col_at w.nodes.items n) (λ z _. c.requires.other z) (along_stands c.args.self.now.nodes.items w.nodes.items c.args.row c.args.pivot c.args.col (value c.args.factor) c.args.self.now.spare w.spare c.loop-source.done n c.loop-source.left a c.requires.other c.requires.entry) in
-    let right : c.index-in-Some-2.result.now.right ≡ right_at newer.nodes.items n = right-read newer.nodes.items n c.index-in-Some-2.result.now (item_live newer.nodes.items n t.live) c.index-in-Some-2.ensures in
+    let right : c.right-source.result ≡ right_at newer.nodes.items n = c.right-source.ensures.is ∙ right-read newer.nodes.items n c.index-in-Some-2.result.now (item_live newer.nodes.items n t.live) c.index-in-Some-2.ensures in
     record {
       small = λ h. rw e (along_small c.args.self.now.nodes.items w.nodes.items c.args.row c.args.pivot c.args.col (value c.args.factor) c.args.self.now.spare w.spare c.loop-source.done n c.loop-source.left a c.requires.other c.requires.entry newer.nodes.items v p (c.stays_small-small.ensures.here h) (c.loop-source.invariant.small (c.stays_small-small.ensures.before h)));
       along = rw (e, right) s;

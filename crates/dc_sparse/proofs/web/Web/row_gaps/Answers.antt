@@ -36,7 +36,7 @@ left_of-left-requires-clause-from c =
     let a : IsCounting w.nodes.items c.args.row c.args.pivot c.loop-source.count c.loop-source.done (Some n) c.loop-source.left = rw c.in-Some.is at c.loop-source.invariant.counting in
     let inside = item_live w.nodes.items n a.next.0.live in
     let in_table = (w.woven.within n a.next.0.live).1 in
-    let e : c.index.result.now.col ≡ col_at w.nodes.items n = col-read w.nodes.items n c.index.result.now inside c.index.ensures in
+    let e : c.col-at.result ≡ col_at w.nodes.items n = c.col-at.ensures ∙ col-read w.nodes.items n c.index.result.now inside c.index.ensures in
     subst (λ k. StandsBefore (by_rows w.nodes.items) c.args.row k c.loop-source.left) (sym e) (counting_stop w.nodes.items c.args.row c.args.pivot c.loop-source.count c.loop-source.done n c.loop-source.left a)
 
 pub overflow_add-done : goal.overflow_add-done
@@ -46,7 +46,7 @@ overflow_add-done c =
     let a : IsCounting w.nodes.items c.args.row c.args.pivot c.loop-source.count c.loop-source.done (Some n) c.loop-source.left = rw c.in-Some.is at c.loop-source.invariant.counting in
     let inside = item_live w.nodes.items n a.next.0.live in
     let in_table = (w.woven.within n a.next.0.live).1 in
-    let e : c.index.result.now.col ≡ col_at w.nodes.items n = col-read w.nodes.items n c.index.result.now inside c.index.ensures in
+    let e : c.col-at.result ≡ col_at w.nodes.items n = c.col-at.ensures ∙ col-read w.nodes.items n c.index.result.now inside c.index.ensures in
     omega (arith, w.col_heads.ok.0)
 
 pub loop-source-smaller : goal.loop-source-smaller
@@ -56,7 +56,7 @@ loop-source-smaller c =
     let a : IsCounting w.nodes.items c.args.row c.args.pivot c.loop-source.count c.loop-source.done (Some n) c.loop-source.left = rw c.in-Some.is at c.loop-source.invariant.counting in
     let inside = item_live w.nodes.items n a.next.0.live in
     let in_table = (w.woven.within n a.next.0.live).1 in
-    let e : c.index.result.now.col ≡ col_at w.nodes.items n = col-read w.nodes.items n c.index.result.now inside c.index.ensures in
+    let e : c.col-at.result ≡ col_at w.nodes.items n = c.col-at.ensures ∙ col-read w.nodes.items n c.index.result.now inside c.index.ensures in
     let le = a.next.0.place in
     omega arith
 
@@ -67,8 +67,8 @@ loop-source-preserved c =
     let a : IsCounting w.nodes.items c.args.row c.args.pivot c.loop-source.count c.loop-source.done (Some n) c.loop-source.left = rw c.in-Some.is at c.loop-source.invariant.counting in
     let inside = item_live w.nodes.items n a.next.0.live in
     let in_table = (w.woven.within n a.next.0.live).1 in
-    let e : c.index.result.now.col ≡ col_at w.nodes.items n = col-read w.nodes.items n c.index.result.now inside c.index.ensures in
-    let right : c.index-in-Some.result.now.right ≡ right_at w.nodes.items n = right-read w.nodes.items n c.index-in-Some.result.now inside c.index-in-Some.ensures in
+    let e : c.col-at.result ≡ col_at w.nodes.items n = c.col-at.ensures ∙ col-read w.nodes.items n c.index.result.now inside c.index.ensures in
+    let right : c.right-source.result ≡ right_at w.nodes.items n = c.right-source.ensures.is ∙ right-read w.nodes.items n c.index-in-Some.result.now inside c.index-in-Some.ensures in
     let l : IsLast (by_rows w.nodes.items) c.args.row (col_at w.nodes.items n) c.left_of-left.result = subst (λ k. IsLast (by_rows w.nodes.items) c.args.row k c.left_of-left.result) e c.left_of-left.ensures in
     let g : c.gap_at-count.result ≡ cond (is_zero (entry_at w.nodes.items c.args.row (col_at w.nodes.items n))) 1 0 = c.gap_at-count.ensures ∙ ap (λ (k : ℕ). cond (is_zero (entry_at w.nodes.items c.args.row k)) 1 0) e in
     record {
@@ -91,5 +91,5 @@ overflow_add-count c =
     let le = a.next.0.place in
     let m = row_gaps-most w.nodes.items c.args.row c.args.pivot c.loop-source.done in
     let q = a.counted in
-    let u = unit_most (is_zero (entry_at w.nodes.items c.args.row c.index.result.now.col)) c.gap_at-count.result c.gap_at-count.ensures in
+    let u = unit_most (is_zero (entry_at w.nodes.items c.args.row c.col-at.result)) c.gap_at-count.result c.gap_at-count.ensures in
     omega (arith, w.col_heads.ok.0)

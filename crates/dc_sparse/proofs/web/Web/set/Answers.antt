@@ -1,6 +1,7 @@
-use Rattle.std.proofs.Common.{arith}
+use Rattle.std.proofs.Common.{arith, refl}
 use Rattle.dc_frac.specs.Value.{value}
 use Rattle.dc_sparse.proofs.Cells.{item_live, revalued}
+use Rattle.dc_sparse.proofs.Smalls.{small_kept}
 use Rattle.dc_sparse.proofs.Values.{woven_same, put_revalued, stays_revalued}
 use Rattle.dc_sparse.proofs.web.Web.set.Goals as goal
 
@@ -13,6 +14,7 @@ invariant_of-self c =
     let l = item_live w.nodes.items c.args.node c.requires.node in
     record {
       stopped = w.stopped;
+      small = small_kept _ _ _ _ _ _ (revalued w.nodes.items c.args.node c.index_mut.result.now c.args.entry l c.index_mut.ensures.value).long refl refl w.small;
       woven = woven_same w.nodes.items _ w.row_heads.items w.col_heads.items w.free w.spare c.args.node (value c.args.entry) w.woven c.requires.node c.requires.nonzero
           (revalued w.nodes.items c.args.node c.index_mut.result.now c.args.entry l c.index_mut.ensures.value);
     }

@@ -9,10 +9,10 @@ returns c holds =
     let w = c.args.self.now in
     let n = c.args.node in
     let x = c.index-node.result.now in
-    let row = row-read w.nodes.items n x c.requires c.index-node.ensures in
-    let above = c.if-node-row.false in
+    let row = c.row.ensures ∙ row-read w.nodes.items n x c.requires c.index-node.ensures in
+    let above = c.if-row.false in
     record {
       live = ap (λ q. not (is_zero q)) (sym (item-read w.nodes.items n x c.requires c.index-node.ensures)) ∙ ap not (sym c.is_zero.ensures) ∙ holds;
-      line = sym (col-read w.nodes.items n x c.requires c.index-node.ensures) ∙ c.if-node-col.false;
+      line = sym (c.col.ensures ∙ col-read w.nodes.items n x c.requires c.index-node.ensures) ∙ c.if-col.false;
       place = omega arith;
     }
