@@ -234,8 +234,9 @@ impl Web {
         let mut done = 0;
         let mut next = self.right_of(row, None);
         while let Some(node) = next {
+            let at = self.nodes[node].col();
             count += 1;
-            done = self.nodes[node].col() + 1;
+            done = at + 1;
             next = self.nodes[node].right();
         }
         count

@@ -47,7 +47,7 @@ overflow_add-done c =
     let f : IsFirst (by_rows w.nodes.items) c.args.row c.loop-next.done (Some n) = rw c.in-Some.is at c.loop-next.invariant.first in
     let inside = item_live w.nodes.items n f.0.live in
     let in_table = (w.woven.within n f.0.live).1 in
-    let e : c.index.result.now.col ≡ col_at w.nodes.items n = col-read w.nodes.items n c.index.result.now inside c.index.ensures in
+    let e : c.col-at.result ≡ col_at w.nodes.items n = c.col-at.ensures ∙ col-read w.nodes.items n c.index.result.now inside c.index.ensures in
     omega (arith, w.col_heads.ok.0)
 
 pub loop-next-smaller : goal.loop-next-smaller
@@ -57,7 +57,7 @@ loop-next-smaller c =
     let f : IsFirst (by_rows w.nodes.items) c.args.row c.loop-next.done (Some n) = rw c.in-Some.is at c.loop-next.invariant.first in
     let inside = item_live w.nodes.items n f.0.live in
     let in_table = (w.woven.within n f.0.live).1 in
-    let e : c.index.result.now.col ≡ col_at w.nodes.items n = col-read w.nodes.items n c.index.result.now inside c.index.ensures in
+    let e : c.col-at.result ≡ col_at w.nodes.items n = c.col-at.ensures ∙ col-read w.nodes.items n c.index.result.now inside c.index.ensures in
     let le = f.0.place in
     omega arith
 
@@ -68,8 +68,8 @@ loop-next-preserved c =
     let f : IsFirst (by_rows w.nodes.items) c.args.row c.loop-next.done (Some n) = rw c.in-Some.is at c.loop-next.invariant.first in
     let inside = item_live w.nodes.items n f.0.live in
     let in_table = (w.woven.within n f.0.live).1 in
-    let e : c.index.result.now.col ≡ col_at w.nodes.items n = col-read w.nodes.items n c.index.result.now inside c.index.ensures in
-    let right : c.index-in-Some.result.now.right ≡ right_at w.nodes.items n = right-read w.nodes.items n c.index-in-Some.result.now inside c.index-in-Some.ensures in
+    let e : c.col-at.result ≡ col_at w.nodes.items n = c.col-at.ensures ∙ col-read w.nodes.items n c.index.result.now inside c.index.ensures in
+    let right : c.right-next.result ≡ right_at w.nodes.items n = c.right-next.ensures.is ∙ right-read w.nodes.items n c.index-in-Some.result.now inside c.index-in-Some.ensures in
     record {
       counted = rw (e, c.loop-next.invariant.counted) (sym (entries_step w.nodes.items c.args.row c.loop-next.done n f w.woven.apart inside));
       first = rw (e, right) (next_first (by_rows w.nodes.items) (length w.row_heads.items) (head_at w.row_heads.items) c.args.row n w.woven.rows (f.0.live, f.0.line));

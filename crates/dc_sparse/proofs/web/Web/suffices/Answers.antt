@@ -48,7 +48,7 @@ overflow_add-done c =
     let a : AreCounted w.nodes.items (length w.col_heads.items) c.args.pivot c.args.col (rows_gaps w.nodes.items (length w.col_heads.items) c.args.pivot c.args.col c.loop-next.done) c.loop-next.done (Some n) = rw c.in-Some.is at c.loop-next.invariant.counting in
     let inside = item_live w.nodes.items n a.next.0.live in
     let in_table = (w.woven.within n a.next.0.live).0 in
-    let e : c.index.result.now.row ≡ row_at w.nodes.items n = row-read w.nodes.items n c.index.result.now inside c.index.ensures in
+    let e : c.row-row.result ≡ row_at w.nodes.items n = c.row-row.ensures ∙ row-read w.nodes.items n c.index.result.now inside c.index.ensures in
     omega (arith, w.row_heads.ok.0)
 
 pub loop-next-smaller : goal.loop-next-smaller
@@ -58,7 +58,7 @@ loop-next-smaller c =
     let a : AreCounted w.nodes.items (length w.col_heads.items) c.args.pivot c.args.col (rows_gaps w.nodes.items (length w.col_heads.items) c.args.pivot c.args.col c.loop-next.done) c.loop-next.done (Some n) = rw c.in-Some.is at c.loop-next.invariant.counting in
     let inside = item_live w.nodes.items n a.next.0.live in
     let in_table = (w.woven.within n a.next.0.live).0 in
-    let e : c.index.result.now.row ≡ row_at w.nodes.items n = row-read w.nodes.items n c.index.result.now inside c.index.ensures in
+    let e : c.row-row.result ≡ row_at w.nodes.items n = c.row-row.ensures ∙ row-read w.nodes.items n c.index.result.now inside c.index.ensures in
     let le = a.next.0.place in
     omega arith
 
@@ -69,8 +69,8 @@ loop-next-preserved c =
     let a : AreCounted w.nodes.items (length w.col_heads.items) c.args.pivot c.args.col (rows_gaps w.nodes.items (length w.col_heads.items) c.args.pivot c.args.col c.loop-next.done) c.loop-next.done (Some n) = rw c.in-Some.is at c.loop-next.invariant.counting in
     let inside = item_live w.nodes.items n a.next.0.live in
     let in_table = (w.woven.within n a.next.0.live).0 in
-    let e : c.index.result.now.row ≡ row_at w.nodes.items n = row-read w.nodes.items n c.index.result.now inside c.index.ensures in
-    let ed : c.index-in-Some.result.now.down ≡ down_at w.nodes.items n = down-read w.nodes.items n c.index-in-Some.result.now inside c.index-in-Some.ensures in
+    let e : c.row-row.result ≡ row_at w.nodes.items n = c.row-row.ensures ∙ row-read w.nodes.items n c.index.result.now inside c.index.ensures in
+    let ed : c.down-next.result ≡ down_at w.nodes.items n = c.down-next.ensures.is ∙ down-read w.nodes.items n c.index-in-Some.result.now inside c.index-in-Some.ensures in
     let count = rows_gaps w.nodes.items (length w.col_heads.items) c.args.pivot c.args.col c.loop-next.done in
     let r : count + c.loop-next.left ≤ w.spare = c.loop-next.invariant.room in
     elim c.if-row-pivot.branch [
