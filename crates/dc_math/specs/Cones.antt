@@ -155,6 +155,3 @@ module _ {X : Type 0} where
 
   pub shown : (fs : List (X → ℚ)) (f : X → ℚ) → Cone fs f → Shown fs f
   shown fs f c = record { by = fit c.by fs; one_each = fit_length c.by fs; not_negative = fit_each c.by fs c.not_negative; is = λ x. fit_dot c.by fs x ∙ c.is x }
-
-  pub cone_shown : (fs : List (X → ℚ)) (f : X → ℚ) → Shown fs f → Cone fs f
-  cone_shown fs f s = record { by = s.by; not_negative = s.not_negative; is = s.is }

@@ -1,7 +1,7 @@
 -- Laws of the order of any ordered field.
 use Rattle.std.proofs.Common.{◌≡◌, ◌≢◌, ℕ, ◌<◌, ◌==◌, Bool, true, false, cond, refl, sym, ◌∙◌, ap, eq-eqb}
 use Rattle.std.proofs.lemmas.Bool.{ne_eqb, both_ways, true_from_ne_false, false_from_ne_true}
-use Rattle.dc_math.specs.Field.{Field, sum_to, minus}
+use Rattle.dc_math.specs.Field.{Field, sum_to, minus, nonneg}
 use Rattle.dc_math.specs.FieldSums.{mul_zero, zero_add, neg_back, neg_zero, neg_add, cancel, minus-back, mul_neg, inverse-back, sum-same, sum-none, sum_but, sum-split, sum_but-same}
 
 module _ (Q : Type 0) (F : Field Q) where
@@ -11,25 +11,29 @@ module _ (Q : Type 0) (F : Field Q) where
   pub neg_mul : (x y : Q) → F.mul (F.neg x) y ≡ F.neg (F.mul x y)
   neg_mul x y = F.mul_comm (F.neg x) y ∙ mul_neg Q F y x ∙ ap F.neg (F.mul_comm y x)
 
-  pub nonneg_zero : F.nonneg F.zero_q ≡ true
-  nonneg_zero = true_from_ne_false (F.nonneg F.zero_q) (λ e. both_ways (F.nonneg F.zero_q) e (sym (ap F.nonneg (neg_zero Q F)) ∙ F.nonneg_neg F.zero_q e))
+  pub nonneg_zero : nonneg Q F F.zero_q ≡ true
+  nonneg_zero = true_from_ne_false (nonneg Q F F.zero_q) (λ e. both_ways (nonneg Q F F.zero_q) e (sym (ap (nonneg Q F) (neg_zero Q F)) ∙ F.nonneg_neg F.zero_q e))
 
-  pub nonneg_neg_zero : F.nonneg (F.neg F.zero_q) ≡ true
-  nonneg_neg_zero = ap F.nonneg (neg_zero Q F) ∙ nonneg_zero
+  pub nonneg_neg_zero : nonneg Q F (F.neg F.zero_q) ≡ true
+  nonneg_neg_zero = ap (nonneg Q F) (neg_zero Q F) ∙ nonneg_zero
+
+  -- at most 0
+  pub at_most_zero : (x : Q) → F.at_most x F.zero_q ≡ nonneg Q F (F.neg x)
+  at_most_zero x = F.at_most_sub x F.zero_q ∙ ap (nonneg Q F) (zero_add Q F (F.neg x))
 
   -- what is above 0 is at least 0, and isn't 0
-  pub above-nonneg : (x : Q) → F.nonneg (F.neg x) ≡ false → F.nonneg x ≡ true
-  above-nonneg x e = sym (ap F.nonneg (neg_neg x)) ∙ F.nonneg_neg (F.neg x) e
+  pub above-nonneg : (x : Q) → nonneg Q F (F.neg x) ≡ false → nonneg Q F x ≡ true
+  above-nonneg x e = sym (ap (nonneg Q F) (neg_neg x)) ∙ F.nonneg_neg (F.neg x) e
 
-  pub above-nonzero : (x : Q) → F.nonneg (F.neg x) ≡ false → x ≢ F.zero_q
-  above-nonzero x e z = both_ways (F.nonneg (F.neg x)) e (ap (λ y. F.nonneg (F.neg y)) z ∙ nonneg_neg_zero)
+  pub above-nonzero : (x : Q) → nonneg Q F (F.neg x) ≡ false → x ≢ F.zero_q
+  above-nonzero x e z = both_ways (nonneg Q F (F.neg x)) e (ap (λ y. nonneg Q F (F.neg y)) z ∙ nonneg_neg_zero)
 
-  pub below-nonzero : (x : Q) → F.nonneg x ≡ false → x ≢ F.zero_q
-  below-nonzero x e z = both_ways (F.nonneg x) e (ap F.nonneg z ∙ nonneg_zero)
+  pub below-nonzero : (x : Q) → nonneg Q F x ≡ false → x ≢ F.zero_q
+  below-nonzero x e z = both_ways (nonneg Q F x) e (ap (nonneg Q F) z ∙ nonneg_zero)
 
   -- below 0 times above 0
-  pub below-times_above : (x y : Q) → F.nonneg x ≡ false → F.nonneg (F.neg y) ≡ false → F.nonneg (F.neg (F.mul x y)) ≡ true
-  below-times_above x y e f = sym (ap F.nonneg (neg_mul x y)) ∙ F.nonneg_mul (F.neg x) y (F.nonneg_neg x e) (above-nonneg y f)
+  pub below-times_above : (x y : Q) → nonneg Q F x ≡ false → nonneg Q F (F.neg y) ≡ false → nonneg Q F (F.neg (F.mul x y)) ≡ true
+  below-times_above x y e f = sym (ap (nonneg Q F) (neg_mul x y)) ∙ F.nonneg_mul (F.neg x) y (F.nonneg_neg x e) (above-nonneg y f)
 
   pub zero-times : (x y : Q) → x ≡ F.zero_q → F.mul x y ≡ F.zero_q
   zero-times x y e = ap (λ w. F.mul w y) e ∙ F.mul_comm F.zero_q y ∙ mul_zero Q F y
@@ -37,22 +41,22 @@ module _ (Q : Type 0) (F : Field Q) where
   pub times-zero : (x y : Q) → y ≡ F.zero_q → F.mul x y ≡ F.zero_q
   times-zero x y e = ap (F.mul x) e ∙ mul_zero Q F x
 
-  pub zero-product : (x y : Q) → x ≡ F.zero_q → F.nonneg (F.neg (F.mul x y)) ≡ true
-  zero-product x y e = ap (λ w. F.nonneg (F.neg w)) (zero-times x y e) ∙ nonneg_neg_zero
+  pub zero-product : (x y : Q) → x ≡ F.zero_q → nonneg Q F (F.neg (F.mul x y)) ≡ true
+  zero-product x y e = ap (λ w. nonneg Q F (F.neg w)) (zero-times x y e) ∙ nonneg_neg_zero
 
   -- where x is at least 0 and x * y above 0, y is above 0
-  pub factor-above : (x y : Q) → F.nonneg x ≡ true → F.nonneg (F.neg (F.mul x y)) ≡ false → F.nonneg (F.neg y) ≡ false
-  factor-above x y e f = false_from_ne_true (F.nonneg (F.neg y)) (λ h.
-      both_ways (F.nonneg (F.neg (F.mul x y))) f (sym (ap F.nonneg (mul_neg Q F x y)) ∙ F.nonneg_mul x (F.neg y) e h))
+  pub factor-above : (x y : Q) → nonneg Q F x ≡ true → nonneg Q F (F.neg (F.mul x y)) ≡ false → nonneg Q F (F.neg y) ≡ false
+  factor-above x y e f = false_from_ne_true (nonneg Q F (F.neg y)) (λ h.
+      both_ways (nonneg Q F (F.neg (F.mul x y))) f (sym (ap (nonneg Q F) (mul_neg Q F x y)) ∙ F.nonneg_mul x (F.neg y) e h))
 
-  pub nonneg_one : F.nonneg F.one ≡ true
-  nonneg_one = true_from_ne_false (F.nonneg F.one) (λ e.
-      both_ways (F.nonneg F.one) e (sym (ap F.nonneg (mul_neg Q F (F.neg F.one) F.one ∙ ap F.neg (F.mul_one (F.neg F.one)) ∙ neg_neg F.one)) ∙ F.nonneg_mul (F.neg F.one) (F.neg F.one) (F.nonneg_neg F.one e) (F.nonneg_neg F.one e)))
+  pub nonneg_one : nonneg Q F F.one ≡ true
+  nonneg_one = true_from_ne_false (nonneg Q F F.one) (λ e.
+      both_ways (nonneg Q F F.one) e (sym (ap (nonneg Q F) (mul_neg Q F (F.neg F.one) F.one ∙ ap F.neg (F.mul_one (F.neg F.one)) ∙ neg_neg F.one)) ∙ F.nonneg_mul (F.neg F.one) (F.neg F.one) (F.nonneg_neg F.one e) (F.nonneg_neg F.one e)))
 
-  pub inverse-nonneg : (x : Q) → F.nonneg (F.neg x) ≡ false → F.nonneg (F.inverse x) ≡ true
-  inverse-nonneg x e = true_from_ne_false (F.nonneg (F.inverse x)) (λ f.
+  pub inverse-nonneg : (x : Q) → nonneg Q F (F.neg x) ≡ false → nonneg Q F (F.inverse x) ≡ true
+  inverse-nonneg x e = true_from_ne_false (nonneg Q F (F.inverse x)) (λ f.
       F.nontrivial (F.nonneg_both F.one nonneg_one
-      (sym (ap F.nonneg (mul_neg Q F x (F.inverse x) ∙ ap F.neg (F.mul_inverse x (above-nonzero x e)))) ∙ F.nonneg_mul x (F.neg (F.inverse x)) (above-nonneg x e) (F.nonneg_neg (F.inverse x) f))))
+      (sym (ap (nonneg Q F) (mul_neg Q F x (F.inverse x) ∙ ap F.neg (F.mul_inverse x (above-nonzero x e)))) ∙ F.nonneg_mul x (F.neg (F.inverse x)) (above-nonneg x e) (F.nonneg_neg (F.inverse x) f))))
 
   -- a product with a nonzero factor is 0 only where the other factor is
   pub factor-zero : (x y : Q) → x ≢ F.zero_q → F.mul x y ≡ F.zero_q → y ≡ F.zero_q

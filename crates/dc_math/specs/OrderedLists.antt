@@ -1,7 +1,7 @@
 -- Lists in a strict order: two with the same members are equal, and one within another is no longer.
 use Rattle.std.specs.Prelude.{◌≡◌, ◌⊎◌, suc, ◌≤◌, List, [], ◌∷◌, ◌++◌, map, length, AllPairs, Contains, refl}
 use Rattle.std.specs.List.{AllByRecursion}
-use Rattle.std.proofs.Common.{sym, ◌∙◌, ap, ap₂, subst, arith, inl, inr}
+use Rattle.std.proofs.Common.{sym, ◌∙◌, ap₂, subst, arith, inl, inr}
 use Rattle.std.proofs.lemmas.List.Elements.{All-from_recursion, recursion_from_All, All-contains}
 use Rattle.std.proofs.lemmas.List.Kept.{AllPairs-cons}
 
@@ -36,10 +36,6 @@ pub each-in : {X : Type 0} (P : X → Type 0) (x : X) (ys : List X) → AllByRec
 each-in P x [] h i = absurd i
 each-in P x (y ∷ ys) h (inl e) = subst P (sym e) h.0
 each-in P x (y ∷ ys) h (inr i) = each-in P x ys h.1 i
-
-pub length-map : {X Y : Type 0} (f : X → Y) (xs : List X) → length (map f xs) ≡ length xs
-length-map f [] = refl
-length-map f (x ∷ xs) = ap suc (length-map f xs)
 
 -- ---- members
 pub in-append_left : {X : Type 0} (x : X) (xs ys : List X) → In x xs → In x (xs ++ ys)

@@ -1,6 +1,6 @@
 -- Numbers that obey Pascal's rule: one division gives the next, and none passes a power of 2.
-use Rattle.std.specs.Prelude.{◌≡◌, ℕ, zero, suc, ◌+◌, ◌*◌, ◌^◌, ◌≤◌, refl}
-use Rattle.std.proofs.Common.{◌∙◌, sym, ap, arith}
+use Rattle.std.specs.Prelude.{◌≡◌, ℕ, zero, suc, ◌+◌, ◌*◌, ◌^◌, ◌≤◌}
+use Rattle.std.proofs.Common.{◌∙◌, ap, arith}
 use Rattle.std.proofs.Math.Nat.{pow-succ', pow-zero}
 
 -- the numbers of choices of at most k of n things, repeats allowed: the binomial coefficient of n + k over k

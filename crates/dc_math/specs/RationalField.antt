@@ -5,7 +5,7 @@ use Rattle.dc_math.specs.Rational.{ℚ, ◌+ℚ◌, ◌*ℚ◌, neg_ℚ, of_ℤ,
 use Rattle.dc_math.specs.RationalRing.{ring, reads, read_nat, same_form}
 use Rattle.dc_math.specs.Inverse.{inverse, *ℚ-inverse}
 use Rattle.dc_math.specs.Order.{one_nonzero}
-use Rattle.dc_math.specs.Tests.{le_ℚ-true, le_ℚ_true, le_ℚ_false}
+use Rattle.dc_math.specs.Tests.{le_ℚ-true, le_ℚ_true, le_ℚ_false, le_ℚ-sub}
 use Rattle.dc_math.specs.Field.{Field}
 
 pub +ℚ-zero : (x : ℚ) → x +ℚ of_ℤ (pos 0) ≡ x
@@ -42,7 +42,8 @@ rationals = record {
   mul_add = *ℚ-+ℚ;
   mul_inverse = *ℚ-inverse;
   nontrivial = one_nonzero;
-  nonneg = λ x. le_ℚ (of_ℤ (pos 0)) x;
+  at_most = le_ℚ;
+  at_most_sub = le_ℚ-sub;
   nonneg_add = λ x y e f. le_ℚ-true _ _ (NonNegative-+ℚ x y (le_ℚ_true _ _ e) (le_ℚ_true _ _ f));
   nonneg_mul = λ x y e f. le_ℚ-true _ _ (NonNegative-*ℚ x y (le_ℚ_true _ _ e) (le_ℚ_true _ _ f));
   nonneg_neg = λ x e. le_ℚ-true _ _ (NonNegative-neg_ℚ x (<ℚ-≤ℚ _ _ (le_ℚ_false _ _ e)));

@@ -2,9 +2,8 @@
 use Rattle.std.specs.Prelude.{◌≡◌, ℕ, ℤ, pos, negsuc, ◌≤ℤ◌, [], ◌∷◌}
 use Rattle.std.proofs.Common.{refl, sym, ap, ◌∙◌, arith, subst, ⊎_elim}
 use Rattle.std.proofs.lemmas.Int.{ints}
-use Rattle.dc_math.specs.Rational.{ℚ, ◌*ℚ◌, neg_ℚ, of_ℤ, of_ℤ_is, fraction_of, ratio_at_most, at_most_ratio, ◌≤ℚ◌, ◌<ℚ◌, <ℚ-≤ℚ, <ℚ-not, ≤ℚ_refl, ≤ℚ_total, ≤ℚ-sub, NonNegative, NonNegative-*ℚ, one-*ℚ, neg_ℚ_is, *ℚ_comm, ≤ℚ_or}
+use Rattle.dc_math.specs.Rational.{ℚ, ◌*ℚ◌, neg_ℚ, of_ℤ, of_ℤ_is, fraction_of, ratio_at_most, at_most_ratio, ◌≤ℚ◌, ◌<ℚ◌, <ℚ-not, ≤ℚ_refl, ≤ℚ_total, ≤ℚ-sub, NonNegative, NonNegative-*ℚ, one-*ℚ, neg_ℚ_is, *ℚ_comm, ≤ℚ_or}
 use Rattle.dc_math.specs.RationalRing.{ring, reads, read_nat, same_form}
-use Rattle.dc_math.specs.Inverse.{inverse, *ℚ-inverse}
 
 pub of_ℤ-≤ : (m n : ℤ) → m ≤ℤ n → of_ℤ m ≤ℚ of_ℤ n
 of_ℤ-≤ m n h = rw (of_ℤ_is m, of_ℤ_is n) (ratio_at_most (fraction_of m) (fraction_of n) (omega (arith, ints)))
@@ -19,9 +18,6 @@ one_non_negative = of_ℤ-≤ (pos 0) (pos 1) (omega (arith, ints))
 
 pub zero_non_negative : NonNegative (of_ℤ (pos 0))
 zero_non_negative = ≤ℚ_refl (of_ℤ (pos 0))
-
-pub minus_one_negative : ¬ (NonNegative (of_ℤ (negsuc 0)))
-minus_one_negative h = let k = of_ℤ-≤_back (pos 0) (negsuc 0) h in absurd (omega (arith, ints))
 
 pub minus_one : of_ℤ (negsuc 0) ≡ neg_ℚ (of_ℤ (pos 1))
 minus_one = sym (neg_ℚ_is (of_ℤ (pos 1)) ∙ *ℚ_comm (of_ℤ (negsuc 0)) (of_ℤ (pos 1)) ∙ one-*ℚ (of_ℤ (negsuc 0)))
@@ -40,19 +36,6 @@ inverse_non_negative k i h e =
     NonNegative_same (k *ℚ (i *ℚ i)) i
     (ring (k ∷ i ∷ []) (λ ρ p q. simp (p, q, reads) (same_form _ _ _ refl)) ∙ ap (λ z. z *ℚ i) e ∙ one-*ℚ i)
     (NonNegative-*ℚ k (i *ℚ i) h (square_non_negative i))
-
--- a number above 0, and its inverse
-pub record Inverted (k : ℚ) : Type 0 where
-  pub i : ℚ
-  pub k_non_negative : NonNegative k
-  pub i_non_negative : NonNegative i
-  pub is_inverse : k *ℚ i ≡ of_ℤ (pos 1)
-
-pub inverted : (k : ℚ) → of_ℤ (pos 0) <ℚ k → Inverted k
-inverted k h =
-    let n = <ℚ-≤ℚ (of_ℤ (pos 0)) k h in
-    let e = *ℚ-inverse k (λ e. <ℚ-not _ _ h (subst (λ z. z ≤ℚ of_ℤ (pos 0)) (sym e) (≤ℚ_refl (of_ℤ (pos 0))))) in
-    record { i = inverse k; k_non_negative = n; i_non_negative = inverse_non_negative k (inverse k) n e; is_inverse = e }
 
 pub negated_positive : (k : ℚ) → k <ℚ of_ℤ (pos 0) → of_ℤ (pos 0) <ℚ neg_ℚ k
 negated_positive k h = ⊎_elim

@@ -1,13 +1,12 @@
--- Finite sums of rational numbers by index, and dot products of lists as such sums.
-use Rattle.std.specs.Prelude.{◌≡◌, ℕ, zero, suc, ◌<◌, ◌≤◌, ◌==◌, cond, pos, List, [], ◌∷◌, length}
-use Rattle.std.proofs.Common.{refl, sym, ◌∙◌, ap, arith}
-use Rattle.dc_math.specs.Rational.{ℚ, ◌+ℚ◌, ◌*ℚ◌, neg_ℚ, of_ℤ, ◌≤ℚ◌, ≤ℚ_refl, NonNegative, NonNegative-+ℚ, zero-*ℚ, *ℚ_comm, +ℚ_comm, +ℚ_assoc}
+-- Finite sums of rational numbers by index, and the numbers of a list by place.
+use Rattle.std.specs.Prelude.{◌≡◌, ℕ, zero, suc, ◌<◌, pos, List, [], ◌∷◌}
+use Rattle.std.proofs.Common.{refl, ◌∙◌, ap, arith}
+use Rattle.dc_math.specs.Rational.{ℚ, ◌+ℚ◌, ◌*ℚ◌, neg_ℚ, of_ℤ, ◌≤ℚ◌, ≤ℚ_refl, +ℚ_comm, +ℚ_assoc}
 use Rattle.dc_math.specs.RationalRing.{ring, reads, read_nat, same_form, +ℚ-≤ℚ}
 use Rattle.dc_math.specs.Field.{sum_to}
 use Rattle.dc_math.specs.FieldSums.{sum-same, sum-add, sum-mul, sum-swap}
-use Rattle.dc_math.specs.FieldOrder.{sum-zero, sum-unit}
+use Rattle.dc_math.specs.FieldOrder.{sum-zero}
 use Rattle.dc_math.specs.RationalField.{rationals}
-use Rattle.dc_math.specs.Vectors.{dot}
 
 -- f 0 + .. + f (n - 1)
 abbrev pub sum_ℚ : ℕ → (ℕ → ℚ) → ℚ
@@ -49,29 +48,14 @@ sum_ℚ-neg_ℚ (suc n) f = ap (λ x. x +ℚ neg_ℚ (f n)) (sum_ℚ-neg_ℚ n f
 pub sum_ℚ_swap : (m n : ℕ) (f : ℕ → ℕ → ℚ) → sum_ℚ m (λ i. sum_ℚ n (f i)) ≡ sum_ℚ n (λ k. sum_ℚ m (λ i. f i k))
 sum_ℚ_swap m n f = sum-swap ℚ rationals m n f
 
--- g is 1 at r, and 0 elsewhere
-pub sum_ℚ_unit : (n r : ℕ) (f g : ℕ → ℚ) → r < n → ((i : ℕ) → i < n → g i ≡ cond (i == r) (of_ℤ (pos 1)) (of_ℤ (pos 0))) → sum_ℚ n (λ i. f i *ℚ g i) ≡ f r
-sum_ℚ_unit n r f g l h = sum-unit ℚ rationals n r f g l h
-
 pub sum_ℚ-≤ℚ : (n : ℕ) (f g : ℕ → ℚ) → ((i : ℕ) → i < n → f i ≤ℚ g i) → sum_ℚ n f ≤ℚ sum_ℚ n g
 unfolding sum_to
 sum_ℚ-≤ℚ zero f g h = ≤ℚ_refl (of_ℤ (pos 0))
 sum_ℚ-≤ℚ (suc n) f g h = +ℚ-≤ℚ _ _ _ _ (sum_ℚ-≤ℚ n f g (λ i l. h i (omega arith))) (h n (omega arith))
 
-pub NonNegative-sum_ℚ : (n : ℕ) (f : ℕ → ℚ) → ((i : ℕ) → i < n → NonNegative (f i)) → NonNegative (sum_ℚ n f)
-unfolding sum_to
-NonNegative-sum_ℚ zero f h = ≤ℚ_refl (of_ℤ (pos 0))
-NonNegative-sum_ℚ (suc n) f h = NonNegative-+ℚ _ _ (NonNegative-sum_ℚ n f (λ i l. h i (omega arith))) (h n (omega arith))
-
--- ---- lists by index
+-- ---- a list by place
 -- the number at a place, and 0 past the end
 abbrev pub at : List ℚ → ℕ → ℚ
 at [] i = of_ℤ (pos 0)
 at (x ∷ xs) zero = x
 at (x ∷ xs) (suc i) = at xs i
-
-pub dot_sum_ℚ : (n : ℕ) (xs ys : List ℚ) → length xs ≤ n → dot xs ys ≡ sum_ℚ n (λ i. at xs i *ℚ at ys i)
-dot_sum_ℚ n [] ys h = sym (sum_ℚ_zero n _ (λ i l. zero-*ℚ (at ys i)))
-dot_sum_ℚ zero (x ∷ xs) ys h = absurd (omega arith)
-dot_sum_ℚ (suc n) (x ∷ xs) [] h = sym (sum_ℚ_zero (suc n) _ (λ i l. *ℚ_comm (at (x ∷ xs) i) (of_ℤ (pos 0)) ∙ zero-*ℚ (at (x ∷ xs) i)))
-dot_sum_ℚ (suc n) (x ∷ xs) (y ∷ ys) h = ap (λ z. x *ℚ y +ℚ z) (dot_sum_ℚ n xs ys (omega arith)) ∙ sym (sum_ℚ_first n (λ i. at (x ∷ xs) i *ℚ at (y ∷ ys) i))

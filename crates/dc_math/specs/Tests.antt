@@ -1,7 +1,8 @@
 -- The comparisons of rational numbers as tests, and what their answers say.
 use Rattle.std.specs.Prelude.{◌≡◌, Bool, true, false, not, ◌&&◌, T, pos}
 use Rattle.std.proofs.Common.{refl, sym, ◌∙◌, ap, subst}
-use Rattle.dc_math.specs.Rational.{ℚ, of_ℤ, le_ℚ, ◌≤ℚ◌, ◌<ℚ◌, ≤ℚ_refl, ≤ℚ_antisymm}
+use Rattle.std.proofs.lemmas.Bool.Decides.{same_from_decides}
+use Rattle.dc_math.specs.Rational.{ℚ, of_ℤ, le_ℚ, ◌≤ℚ◌, ◌<ℚ◌, ◌-ℚ◌, ≤ℚ_refl, ≤ℚ_antisymm, ≤ℚ-sub, sub-≤ℚ}
 
 abbrev pub lt_ℚ : ℚ → ℚ → Bool
 lt_ℚ x y = not (le_ℚ y x)
@@ -27,6 +28,13 @@ le_ℚ-true x y h = to_true (le_ℚ x y) h.le
 
 pub le_ℚ_true : (x y : ℚ) → le_ℚ x y ≡ true → x ≤ℚ y
 le_ℚ_true x y e = record { le = subst T (sym e) tt }
+
+-- their difference decides
+pub le_ℚ-sub : (x y : ℚ) → le_ℚ x y ≡ le_ℚ (of_ℤ (pos 0)) (y -ℚ x)
+le_ℚ-sub x y = same_from_decides {P = x ≤ℚ y} _ _ (le_ℚ_true _ _, le_ℚ-true _ _) (
+  λ e. sub-≤ℚ x y (le_ℚ_true _ _ e),
+  λ h. le_ℚ-true _ _ (≤ℚ-sub x y h),
+)
 
 pub lt_ℚ-true : (x y : ℚ) → x <ℚ y → lt_ℚ x y ≡ true
 lt_ℚ-true x y h = to_true (lt_ℚ x y) h.lt

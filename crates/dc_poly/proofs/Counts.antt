@@ -1,20 +1,20 @@
 -- The number of monomials goes by Pascal's rule.
 use Rattle.std.specs.Prelude.{◌≡◌, ℕ, zero, suc, ◌+◌, List, [], ◌∷◌, map, length, refl}
 use Rattle.std.proofs.Common.{◌∙◌, ap₂, arith, length-append}
-use Rattle.dc_math.specs.OrderedLists.{length-map}
+use Rattle.std.proofs.lemmas.List.{length-map}
 use Rattle.dc_math.specs.Pascal.{IsPascal}
 use Rattle.dc_poly.specs.Terms.{Exponents}
 use Rattle.dc_poly.specs.Monomials.{raised, widened, of_degree, below, monomials_of}
 
 -- one place more: as many as with one degree less, and those without the place
 next_zero : (f : ℕ → List Exponents) → length (widened f 0) ≡ length (f 0)
-next_zero f = length-map (λ m. 0 ∷ m) (f 0)
+next_zero f = length-map (f 0) (λ m. 0 ∷ m)
 
 next_more : (f : ℕ → List Exponents) (d : ℕ) → length (widened f (suc d)) ≡ length (widened f d) + length (f (suc d))
 next_more f d =
     let a = length-append (map raised (widened f d)) (map (λ m. 0 ∷ m) (f (suc d))) in
-    let b = length-map raised (widened f d) in
-    let c = length-map (λ m. 0 ∷ m) (f (suc d)) in
+    let b = length-map (widened f d) raised in
+    let c = length-map (f (suc d)) (λ m. 0 ∷ m) in
     a ∙ ap₂ (λ x y. x + y) b c
 
 below_more : (n d : ℕ) → length (below n (suc d)) ≡ length (below n d) + length (of_degree n d)
