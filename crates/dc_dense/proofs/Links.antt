@@ -11,8 +11,7 @@ use Rattle.dc_frac.specs.Fits.{quotient_fits, product_fits, difference_fits}
 use Rattle.dc_lp.specs.Tables as tables
 use Rattle.dc_lp.specs.Tables.{Table, made, first_index}
 use Rattle.dc_lp.specs.Folds.{checked}
-use Rattle.dc_lp.proofs.FieldTests.{zero_test, negative_test}
-use Rattle.dc_lp.specs.Meanings.{Meaning, resting, at, is_zero, entering, all_below, pivoted, pivot_fits, division_fits, reduction_fits, divided}
+use Rattle.dc_lp.specs.Meanings.{Meaning, resting, at, entering, all_below, pivoted, pivot_fits, division_fits, reduction_fits, divided}
 use Rattle.dc_start.specs.Changes.{step_fits}
 use Rattle.dc_dense.specs.Flat.{item, flat, items_fit, pivoted_item, ArePivoted}
 use Rattle.dc_lp.proofs.Belows.{all_below-same}
@@ -37,8 +36,8 @@ module _ (real h w : ℕ) (basis : List ℕ) (xs : List Frac) (tall : h ≡ leng
     divided-at : (k : ℕ) → k < w → divided table r j k ≡ item xs (r * w + k) /ℚ item xs (r * w + j)
     divided-at k lk = ap₂ ◌/ℚ◌ (table-at r k lr lk) (table-at r j lr lj)
 
-    pub zero-at : (i k : ℕ) → i < h → k < w → is_zero (at table i k) ≡ tests.is_zero (item xs (i * w + k))
-    zero-at i k li lk = zero_test (at table i k) ∙ ap tests.is_zero (table-at i k li lk)
+    pub zero-at : (i k : ℕ) → i < h → k < w → tests.is_zero (at table i k) ≡ tests.is_zero (item xs (i * w + k))
+    zero-at i k li lk = ap tests.is_zero (table-at i k li lk)
 
     pub pivoted_item-at : (i k : ℕ) → i < h → k < w → pivoted_item xs w r j i k ≡ tables.pivoted_entry ℚ rationals table r j i k
     pivoted_item-at i k li lk = sym (
@@ -66,11 +65,10 @@ module _ (real h w : ℕ) (basis : List ℕ) (xs : List Frac) (tall : h ≡ leng
     abbrev place_fits : ℚ → ℚ → ℚ → ℕ → Bool
     place_fits factor x y k = k == j || step_fits factor x y
 
-    step-flat : (i k : ℕ) → i < h → k < w → (k == j || is_zero (divided table r j k) || product_fits (at table i j) (divided table r j k) && difference_fits (at table i k) (at table i j *ℚ divided table r j k))
+    step-flat : (i k : ℕ) → i < h → k < w → (k == j || tests.is_zero (divided table r j k) || product_fits (at table i j) (divided table r j k) && difference_fits (at table i k) (at table i j *ℚ divided table r j k))
         ≡ place_fits (item xs (i * w + j)) (item xs (r * w + k) /ℚ item xs (r * w + j)) (item xs (i * w + k)) k
     step-flat i k li lk =
-        sym (or_assoc (k == j) (is_zero (divided table r j k)) (product_fits (at table i j) (divided table r j k) && difference_fits (at table i k) (at table i j *ℚ divided table r j k)))
-        ∙ ap (λ b. k == j || (b || product_fits (at table i j) (divided table r j k) && difference_fits (at table i k) (at table i j *ℚ divided table r j k))) (zero_test (divided table r j k))
+        sym (or_assoc (k == j) (tests.is_zero (divided table r j k)) (product_fits (at table i j) (divided table r j k) && difference_fits (at table i k) (at table i j *ℚ divided table r j k)))
         ∙ ap (λ x. place_fits (at table i j) x (at table i k) k) (divided-at k lk)
         ∙ ap (λ x. place_fits x (item xs (r * w + k) /ℚ item xs (r * w + j)) (at table i k) k) (table-at i j li lj)
         ∙ ap (λ x. place_fits (item xs (i * w + j)) (item xs (r * w + k) /ℚ item xs (r * w + j)) x k) (table-at i k li lk)
@@ -78,9 +76,9 @@ module _ (real h w : ℕ) (basis : List ℕ) (xs : List Frac) (tall : h ≡ leng
     row-flat : (i : ℕ) → i < h → (i == r || reduction_fits table r j i) ≡ (i == r || tests.is_zero (item xs (i * w + j)) || all_below w (λ k. k == j || step_fits (item xs (i * w + j)) (item xs (r * w + k) /ℚ item xs (r * w + j)) (item xs (i * w + k))))
     unfolding reduction_fits
     row-flat i li =
-        or_assoc (i == r) (is_zero (at table i j)) _
-        ∙ ap (λ b. i == r || b || all_below (real + length basis + 1) (λ k. k == j || is_zero (divided table r j k) || product_fits (at table i j) (divided table r j k) && difference_fits (at table i k) (at table i j *ℚ divided table r j k))) (zero-at i j li lj)
-        ∙ ap (λ x. i == r || tests.is_zero (item xs (i * w + j)) || all_below x (λ k. k == j || is_zero (divided table r j k) || product_fits (at table i j) (divided table r j k) && difference_fits (at table i k) (at table i j *ℚ divided table r j k))) (sym wide)
+        or_assoc (i == r) (tests.is_zero (at table i j)) _
+        ∙ ap (λ b. i == r || b || all_below (real + length basis + 1) (λ k. k == j || tests.is_zero (divided table r j k) || product_fits (at table i j) (divided table r j k) && difference_fits (at table i k) (at table i j *ℚ divided table r j k))) (zero-at i j li lj)
+        ∙ ap (λ x. i == r || tests.is_zero (item xs (i * w + j)) || all_below x (λ k. k == j || tests.is_zero (divided table r j k) || product_fits (at table i j) (divided table r j k) && difference_fits (at table i k) (at table i j *ℚ divided table r j k))) (sym wide)
         ∙ ap (λ b. i == r || tests.is_zero (item xs (i * w + j)) || b) (all_below-same w _ _ (λ k lk. step-flat i k li lk))
 
     pub pivot_fits-flat : pivot_fits table r j ≡ items_fit xs w h r j
@@ -106,7 +104,7 @@ refilled n ws old e f =
 -- ---- the column that enters
 
 unfoldable pub entering_below : Table ℚ → ℕ → ℕ → Option ℕ
-entering_below t i n = first_index (λ k. tables.is_negative ℚ rationals (at t i k)) n
+entering_below t i n = first_index (λ k. tests.is_negative (at t i k)) n
 
 pub entering_below-start : (t : Table ℚ) (i : ℕ) → entering_below t i 0 ≡ None
 unfolding entering_below
@@ -114,11 +112,11 @@ entering_below-start t i = refl
 
 pub entering_below-more : (t : Table ℚ) (i n : ℕ) → entering_below t i n ≡ None → tests.is_negative (at t i n) ≡ false → entering_below t i (n + 1) ≡ None
 unfolding entering_below
-entering_below-more t i n e h = first_some-none (λ k. checked (tables.is_negative ℚ rationals (at t i k)) k) n e (rw (negative_test (at t i n) ∙ h) refl)
+entering_below-more t i n e h = first_some-none (λ k. checked (tests.is_negative (at t i k)) k) n e (rw (h) refl)
 
 pub entering-found : (t : Table ℚ) (i j : ℕ) → entering_below t i j ≡ None → tests.is_negative (at t i j) ≡ true → j < t.real → entering t i ≡ Some j
 unfolding entering_below tables.entering
-entering-found t i j e h lt = first_some-found (λ k. checked (tables.is_negative ℚ rationals (at t i k)) k) j t.real j e (rw (negative_test (at t i j) ∙ h) refl) lt
+entering-found t i j e h lt = first_some-found (λ k. checked (tests.is_negative (at t i k)) k) j t.real j e (rw (h) refl) lt
 
 pub entering-none : (t : Table ℚ) (i n : ℕ) → entering_below t i n ≡ None → n ≡ t.real → entering t i ≡ None
 unfolding entering_below tables.entering

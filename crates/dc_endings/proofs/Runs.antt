@@ -6,13 +6,13 @@ use Rattle.std.proofs.lemmas.Bool.{and_parts, eqb-true}
 use Rattle.dc_math.specs.Rational.{ℚ, of_ℤ, ◌+ℚ◌, ◌*ℚ◌, neg_ℚ, *ℚ_comm, zero-*ℚ}
 use Rattle.dc_math.specs.RationalRing.{ring, reads, read_nat, same_form}
 use Rattle.dc_math.specs.RationalField.{rationals}
-use Rattle.dc_math.specs.Tests.{eq_ℚ, eq_ℚ-true, eq_ℚ_true}
+use Rattle.dc_math.specs.Tests.{eq_ℚ, eq_ℚ-true, eq_ℚ_true, is_zero}
 use Rattle.dc_math.specs.Inverse.{inverse, *ℚ-inverse}
 use Rattle.dc_frac.specs.Fits.{product_fits, quotient_fits, difference_fits}
 use Rattle.dc_lp.specs.Linear.{Linear}
 use Rattle.dc_lp.specs.Tables as tables
 use Rattle.dc_lp.specs.Tables.{Table, made}
-use Rattle.dc_lp.specs.Meanings.{all_below, at, width, height, divided, pivoted, is_zero, division_fits, reduction_fits, pivot_fits}
+use Rattle.dc_lp.specs.Meanings.{all_below, at, width, height, divided, pivoted, division_fits, reduction_fits, pivot_fits}
 use Rattle.dc_pivots.specs.Runs.{State, run, after, due_at}
 use Rattle.dc_pivots.specs.declared.Due.{Due}
 use Rattle.dc_pivots.specs.declared.Due.TheVariants.{Pivot, End}
@@ -65,9 +65,8 @@ module _ (t : Table ℚ) (r j : ℕ) (h : AreNumbers t) (f : pivot_fits t r j �
           → IsNumber (at t i k +ℚ neg_ℚ (at t i j *ℚ divided t r j k))
       by true b c d p q s w = subst (λ l. IsNumber (at t i l +ℚ neg_ℚ (at t i j *ℚ divided t r j l))) (sym (eqb-true k j p)) (own_number i)
       by false true c d p q s w =
-          let z = and_parts _ _ q in
           no_zero (at t i k) (at t i j *ℚ divided t r j k) (h i k)
-          (ap (λ x. at t i j *ℚ x) (rationals.nonneg_both (divided t r j k) z.0 z.1) ∙ *ℚ_comm (at t i j) (of_ℤ (pos 0)) ∙ zero-*ℚ (at t i j))
+          (ap (λ x. at t i j *ℚ x) (eq_ℚ_true (divided t r j k) (of_ℤ (pos 0)) q) ∙ *ℚ_comm (at t i j) (of_ℤ (pos 0)) ∙ zero-*ℚ (at t i j))
       by false false true true p q s w = difference_number (at t i k) (at t i j *ℚ divided t r j k) s
       by false false true false p q s w = absurd cc
       by false false false d p q s w = absurd cc

@@ -6,7 +6,7 @@ use Rattle.std.proofs.lemmas.Bool.{cases_eq, cases_lt, eq-eqb, ne_eqb, lt-ltb, l
 use mathlib.Core.Path.{fun_ext}
 use Rattle.dc_math.specs.Rational.{ℚ, of_ℤ}
 use Rattle.dc_math.specs.RationalField.{rationals}
-use Rattle.dc_math.specs.Field.{minus}
+use Rattle.dc_math.specs.Field.{minus, nonneg}
 use Rattle.dc_frac.specs.declared.Frac.{Frac}
 use Rattle.dc_lp.specs.Linear.{Linear}
 use Rattle.dc_lp.specs.Tables.{Table, made, at, start_entry, minus_sum, start_value, start}
@@ -26,8 +26,8 @@ use Rattle.dc_points.specs.Stated.{rational}
 use Rattle.dc_points.proofs.Same.{same_problem}
 use Rattle.dc_entail.specs.Equal.{AreEqual, EqualHaveOneOutcome, EqualHaveOneAnswer, EqualHaveOneSolution, EqualHaveOneRefutation}
 
-signed_same : (r s x y : ℚ) → r ≡ s → x ≡ y → cond (rationals.nonneg r) x (rationals.neg x) ≡ cond (rationals.nonneg s) y (rationals.neg y)
-signed_same r s x y e h = ap₂ (λ a b. cond (rationals.nonneg a) b (rationals.neg b)) e h
+signed_same : (r s x y : ℚ) → r ≡ s → x ≡ y → cond (nonneg ℚ rationals r) x (rationals.neg x) ≡ cond (nonneg ℚ rationals s) y (rationals.neg y)
+signed_same r s x y e h = ap₂ (λ a b. cond (nonneg ℚ rationals a) b (rationals.neg b)) e h
 
 -- ---- two problems of one size that agree within it
 module _ (m n : ℕ) (f g : ℕ → ℕ → ℚ) (b d u w : ℕ → ℚ)
@@ -99,7 +99,7 @@ module _ (m n : ℕ) (f g : ℕ → ℕ → ℚ) (b d u w : ℕ → ℚ)
 
   -- ---- vectors
   multiplier-same : (t : Table ℚ) (row i : ℕ) → i < m → multiplier_at p t row i ≡ multiplier_at q t row i
-  multiplier-same t row i l = ap (λ x. cond (rationals.nonneg x) (rationals.neg (at ℚ rationals t row (n + i))) (at ℚ rationals t row (n + i))) (rights i l)
+  multiplier-same t row i l = ap (λ x. cond (nonneg ℚ rationals x) (rationals.neg (at ℚ rationals t row (n + i))) (at ℚ rationals t row (n + i))) (rights i l)
 
   vector-same : (t : Table ℚ) (row : ℕ) (y : List Frac) → IsVector m (multiplier_at p t row) y → IsVector m (multiplier_at q t row) y
   vector-same t row y h = record { long = h.long; each = λ k l. h.each k l ∙ multiplier-same t row k l }

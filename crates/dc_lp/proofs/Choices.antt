@@ -1,30 +1,30 @@
 -- Which column enters and which row leaves, over the rational numbers.
-use Rattle.std.proofs.Common.{◌≡◌, ◌↔◌, ℕ, zero, suc, ◌+◌, ◌<◌, ◌≤◌, Bool, true, false, not, length, slice_index, Option, Some, None, refl, sym, ◌∙◌, ap, subst, arith}
+use Rattle.std.proofs.Common.{◌≡◌, ℕ, ◌≤◌, false, not, length, slice_index, Option, Some, None, refl, sym, ◌∙◌, ap, arith}
 use Rattle.std.specs.Prelude.{pos}
-use Rattle.std.proofs.lemmas.Bool.{not-true, not-false}
-use Rattle.dc_math.specs.Rational.{ℚ, of_ℤ, neg_ℚ, ◌≤ℚ◌, ◌<ℚ◌, <ℚ-not, ≤ℚ_antisymm, le_ℚ, NonNegative, sub-≤ℚ}
+use Rattle.std.proofs.lemmas.Bool.{not-true}
+use Rattle.dc_math.specs.Rational.{ℚ, of_ℤ, neg_ℚ, ◌<ℚ◌, <ℚ-not, ≤ℚ_antisymm, le_ℚ, NonNegative, sub-≤ℚ}
 use Rattle.dc_math.specs.Order.{≤ℚ_same}
 use Rattle.dc_math.specs.RationalField.{rationals, neg_ℚ-NonNegative}
+use Rattle.dc_math.specs.FieldOrder.{at_most_zero}
 use Rattle.dc_math.specs.Tests as tests
 use Rattle.dc_math.specs.Tests.{le_ℚ_true, le_ℚ_false, le_ℚ-true, le_ℚ-false, lt_ℚ_true, lt_ℚ-true}
 use Rattle.dc_lp.specs.Tables as tables
 use Rattle.dc_lp.specs.Tables.{Table}
 use Rattle.dc_lp.specs.Meanings.{at, entering, ratio_row}
-use Rattle.dc_lp.specs.Choices.{IsPositiveIn, ratio_of, Enters, NoneEnters, Leaves, NoneLeaves, HasApartBasis}
+use Rattle.dc_lp.specs.Choices.{ratio_of, Enters, NoneEnters, Leaves, NoneLeaves}
 use Rattle.dc_lp.specs.Laws.{ColumnEnters, NoColumnEnters, RowLeaves, OneRowLeaves, NoRowLeaves}
-use Rattle.dc_lp.proofs.FieldTests.{positive_test}
 use Rattle.dc_lp.proofs.Firsts.{some-index, none-index}
-use Rattle.dc_lp.proofs.Chosen.{entering-is, entering-none, ratio_row-is, ratio_row-none, Leads, IsBest}
+use Rattle.dc_lp.proofs.Chosen.{entering-is, entering-none, ratio_row-is, ratio_row-none, IsBest}
 
 -- ---- signs, as tests and as facts
 negative : (x : ℚ) → le_ℚ (of_ℤ (pos 0)) x ≡ false → x <ℚ of_ℤ (pos 0)
 negative x e = le_ℚ_false _ _ e
 
 positive : (x : ℚ) → le_ℚ (of_ℤ (pos 0)) (neg_ℚ x) ≡ false → of_ℤ (pos 0) <ℚ x
-positive x e = lt_ℚ_true _ _ (sym (positive_test x) ∙ ap not e)
+positive x e = lt_ℚ_true _ _ (ap not (at_most_zero ℚ rationals x ∙ e))
 
 positive-tested : (x : ℚ) → of_ℤ (pos 0) <ℚ x → le_ℚ (of_ℤ (pos 0)) (neg_ℚ x) ≡ false
-positive-tested x h = not-true (le_ℚ (of_ℤ (pos 0)) (neg_ℚ x)) (positive_test x ∙ lt_ℚ-true _ _ h)
+positive-tested x h = sym (at_most_zero ℚ rationals x) ∙ not-true (le_ℚ x (of_ℤ (pos 0))) (lt_ℚ-true _ _ h)
 
 -- ---- the column that enters
 pub column_enters : ColumnEnters
@@ -35,7 +35,7 @@ column_enters t i j = (forth, back)
     forth e = (let h = entering-is ℚ rationals t i j e in record { real = h.0; negative = negative _ h.1; least = λ k l. le_ℚ_true _ _ (h.2 k l) })
 
     back : Enters t i j → entering t i ≡ Some j
-    back h = some-index (λ k. tables.is_negative ℚ rationals (at t i k)) t.real j h.real (ap not (le_ℚ-false _ _ h.negative)) (λ k l. ap not (le_ℚ-true _ _ (h.least k l)))
+    back h = some-index (λ k. tests.is_negative (at t i k)) t.real j h.real (ap not (le_ℚ-false _ _ h.negative)) (λ k l. ap not (le_ℚ-true _ _ (h.least k l)))
 
 pub no_column_enters : NoColumnEnters
 unfolding tables.entering
@@ -45,7 +45,7 @@ no_column_enters t i = (forth, back)
     forth e k l = le_ℚ_true _ _ (entering-none ℚ rationals t i e k l)
 
     back : NoneEnters t i → entering t i ≡ None
-    back h = none-index (λ k. tables.is_negative ℚ rationals (at t i k)) t.real (λ k l. ap not (le_ℚ-true _ _ (h k l)))
+    back h = none-index (λ k. tests.is_negative (at t i k)) t.real (λ k l. ap not (le_ℚ-true _ _ (h k l)))
 
 -- ---- the row that leaves
 pub row_leaves : RowLeaves

@@ -1,10 +1,10 @@
 -- What enters, what leaves and what is driven out, over any ordered field.
-use Rattle.std.proofs.Common.{◌≡◌, ◌≢◌, ℕ, zero, suc, ◌+◌, ◌<◌, ◌≤◌, ◌⊎◌, inl, inr, ◌&&◌, not, Bool, true, false, nat_lt, length, slice_index, Option, Some, None, refl, sym, ◌∙◌, ap, subst, arith}
+use Rattle.std.proofs.Common.{◌≡◌, ◌≢◌, ℕ, zero, suc, ◌<◌, ◌≤◌, inl, inr, ◌&&◌, not, true, false, nat_lt, length, slice_index, Option, Some, None, refl, sym, ◌∙◌, ap, subst, arith}
 use Rattle.std.specs.Option.{option_map}
 use Rattle.std.proofs.lemmas.Bool.{cases_Bool, cases_eq, both_ways, ltb-true, ltb-false, not-true, not-false, or_cases, or_parts, and_parts, and_cases, le-ltb}
-use Rattle.dc_math.specs.Field.{Field, minus}
-use Rattle.dc_math.specs.FieldOrder.{nonneg_zero, above-nonzero, minus_chain, minus-flip}
-use Rattle.dc_lp.specs.Tables.{Table, at, right, entering, ratio_row, ratio_of, best_below, better, goes_before, drive_place, place_in, is_artificial, real_entry, is_zero, is_negative, is_positive, is_below}
+use Rattle.dc_math.specs.Field.{Field, minus, nonneg, is_below, is_negative, is_positive, is_zero}
+use Rattle.dc_math.specs.FieldOrder.{nonneg_zero, at_most_zero, above-nonzero, minus_chain, minus-flip}
+use Rattle.dc_lp.specs.Tables.{Table, at, entering, ratio_row, ratio_of, best_below, better, goes_before, drive_place, place_in, is_artificial, real_entry}
 use Rattle.dc_lp.proofs.Firsts.{first_some-all, first_some-is, index-none, index-some}
 
 pair_of : (i k r j : ℕ) → ◌≡◌ {A = Option (ℕ × ℕ)} (Some (i, k)) (Some (r, j)) → (i ≡ r) × (k ≡ j)
@@ -14,25 +14,38 @@ none-pair : (r j : ℕ) → ◌≡◌ {A = Option (ℕ × ℕ)} None (Some (r, j
 none-pair r j e = absurd (cc)
 
 module _ (Q : Type 0) (F : Field Q) where
-  pub entering-is : (t : Table Q) (i j : ℕ) → entering Q F t i ≡ Some j → (j < t.real) × (F.nonneg (at Q F t i j) ≡ false) × ((k : ℕ) → k < j → F.nonneg (at Q F t i k) ≡ true)
+  pub entering-is : (t : Table Q) (i j : ℕ) → entering Q F t i ≡ Some j → (j < t.real) × (nonneg Q F (at Q F t i j) ≡ false) × ((k : ℕ) → k < j → nonneg Q F (at Q F t i k) ≡ true)
   unfolding entering
   entering-is t i j e =
       let h = index-some (λ k. is_negative Q F (at Q F t i k)) t.real j e in
-      (h.0, not-true (F.nonneg (at Q F t i j)) h.1, λ k l. not-false (F.nonneg (at Q F t i k)) (h.2 k l))
+      (h.0, not-true (nonneg Q F (at Q F t i j)) h.1, λ k l. not-false (nonneg Q F (at Q F t i k)) (h.2 k l))
+
+  -- the tests of signs, by the numbers that are at least 0
+  below-true : (x y : Q) → is_below Q F x y ≡ true → nonneg Q F (minus Q F x y) ≡ false
+  below-true x y e = sym (F.at_most_sub y x) ∙ not-true (F.at_most y x) e
+
+  below-false : (x y : Q) → is_below Q F x y ≡ false → nonneg Q F (minus Q F x y) ≡ true
+  below-false x y e = sym (F.at_most_sub y x) ∙ not-false (F.at_most y x) e
+
+  positive-true : (x : Q) → is_positive Q F x ≡ true → nonneg Q F (F.neg x) ≡ false
+  positive-true x e = sym (at_most_zero Q F x) ∙ not-true (F.at_most x F.zero_q) e
+
+  positive-false : (x : Q) → is_positive Q F x ≡ false → nonneg Q F (F.neg x) ≡ true
+  positive-false x e = sym (at_most_zero Q F x) ∙ not-false (F.at_most x F.zero_q) e
 
   -- the quotient of row i is at most that of row k, and where they tie its basic column is at most that of row k
   pub record Leads (t : Table Q) (j i k : ℕ) : Type 0 where
-    pub best : F.nonneg (minus Q F (ratio_of Q F t j k) (ratio_of Q F t j i)) ≡ true
-    pub tie : F.nonneg (minus Q F (ratio_of Q F t j i) (ratio_of Q F t j k)) ≡ true → slice_index t.basis i ≤ slice_index t.basis k
+    pub best : nonneg Q F (minus Q F (ratio_of Q F t j k) (ratio_of Q F t j i)) ≡ true
+    pub tie : nonneg Q F (minus Q F (ratio_of Q F t j i) (ratio_of Q F t j k)) ≡ true → slice_index t.basis i ≤ slice_index t.basis k
 
-  pub other-way : (x y : Q) → F.nonneg (minus Q F x y) ≡ false → F.nonneg (minus Q F y x) ≡ true
-  other-way x y e = sym (ap F.nonneg (minus-flip Q F x y)) ∙ F.nonneg_neg (minus Q F x y) e
+  pub other-way : (x y : Q) → nonneg Q F (minus Q F x y) ≡ false → nonneg Q F (minus Q F y x) ≡ true
+  other-way x y e = sym (ap (nonneg Q F) (minus-flip Q F x y)) ∙ F.nonneg_neg (minus Q F x y) e
 
-  two-steps : (x y z : Q) → F.nonneg (minus Q F x y) ≡ true → F.nonneg (minus Q F y z) ≡ true → F.nonneg (minus Q F x z) ≡ true
-  two-steps x y z e f = sym (ap F.nonneg (minus_chain Q F x y z)) ∙ F.nonneg_add (minus Q F x y) (minus Q F y z) e f
+  two-steps : (x y z : Q) → nonneg Q F (minus Q F x y) ≡ true → nonneg Q F (minus Q F y z) ≡ true → nonneg Q F (minus Q F x z) ≡ true
+  two-steps x y z e f = sym (ap (nonneg Q F) (minus_chain Q F x y z)) ∙ F.nonneg_add (minus Q F x y) (minus Q F y z) e f
 
   leads-self : (t : Table Q) (j i : ℕ) → Leads t j i i
-  leads-self t j i = record { best = ap F.nonneg (F.add_neg (ratio_of Q F t j i)) ∙ nonneg_zero Q F; tie = λ e. omega arith }
+  leads-self t j i = record { best = ap (nonneg Q F) (F.add_neg (ratio_of Q F t j i)) ∙ nonneg_zero Q F; tie = λ e. omega arith }
 
   leads-then : (t : Table Q) (j i k l : ℕ) → Leads t j i k → Leads t j k l → Leads t j i l
   leads-then t j i k l a b =
@@ -48,11 +61,11 @@ module _ (Q : Type 0) (F : Field Q) where
   before-leads t j i k e =
       let f : ℕ → Q = ratio_of Q F t j in
       elim (or_cases (is_below Q F (f i) (f k)) (not (is_below Q F (f k) (f i)) && nat_lt (slice_index t.basis i) (slice_index t.basis k)) e) [
-        | inl h ↦ (let less : F.nonneg (minus Q F (f i) (f k)) ≡ false = not-true (F.nonneg (minus Q F (f i) (f k))) h in
-            record { best = other-way (f i) (f k) less; tie = λ x. absurd (both_ways (F.nonneg (minus Q F (f i) (f k))) less x) })
+        | inl h ↦ (let less : nonneg Q F (minus Q F (f i) (f k)) ≡ false = below-true (f i) (f k) h in
+            record { best = other-way (f i) (f k) less; tie = λ x. absurd (both_ways (nonneg Q F (minus Q F (f i) (f k))) less x) })
         | inr h ↦ (let a = and_parts (not (is_below Q F (f k) (f i))) (nat_lt (slice_index t.basis i) (slice_index t.basis k)) h in
             let less : slice_index t.basis i < slice_index t.basis k = ltb-true (slice_index t.basis i) (slice_index t.basis k) a.1 in
-            record { best = not-false (F.nonneg (minus Q F (f k) (f i))) (not-true (is_below Q F (f k) (f i)) a.0); tie = λ x. omega arith })
+            record { best = below-false (f k) (f i) (not-true (is_below Q F (f k) (f i)) a.0); tie = λ x. omega arith })
       ]
 
   not_before-leads : (t : Table Q) (j i k : ℕ) → goes_before Q F t j i k ≡ false → Leads t j k i
@@ -60,25 +73,25 @@ module _ (Q : Type 0) (F : Field Q) where
   not_before-leads t j i k e =
       let f : ℕ → Q = ratio_of Q F t j in
       let a = or_parts (is_below Q F (f i) (f k)) (not (is_below Q F (f k) (f i)) && nat_lt (slice_index t.basis i) (slice_index t.basis k)) e in
-      let up : F.nonneg (minus Q F (f i) (f k)) ≡ true = not-false (F.nonneg (minus Q F (f i) (f k))) a.0 in
+      let up : nonneg Q F (minus Q F (f i) (f k)) ≡ true = below-false (f i) (f k) a.0 in
       elim (and_cases (not (is_below Q F (f k) (f i))) (nat_lt (slice_index t.basis i) (slice_index t.basis k)) a.1) [
-        | inl h ↦ (let less : F.nonneg (minus Q F (f k) (f i)) ≡ false = not-true (F.nonneg (minus Q F (f k) (f i))) (not-false (is_below Q F (f k) (f i)) h) in
-            record { best = up; tie = λ x. absurd (both_ways (F.nonneg (minus Q F (f k) (f i))) less x) })
+        | inl h ↦ (let less : nonneg Q F (minus Q F (f k) (f i)) ≡ false = below-true (f k) (f i) (not-false (is_below Q F (f k) (f i)) h) in
+            record { best = up; tie = λ x. absurd (both_ways (nonneg Q F (minus Q F (f k) (f i))) less x) })
         | inr h ↦ (let le : slice_index t.basis k ≤ slice_index t.basis i = ltb-false (slice_index t.basis i) (slice_index t.basis k) h in record { best = up; tie = λ x. le })
       ]
 
   -- of the first n rows with a positive entry, r leads
   pub record IsBest (t : Table Q) (j n r : ℕ) : Type 0 where
     pub below : r < n
-    pub positive : F.nonneg (F.neg (at Q F t r j)) ≡ false
-    pub leads : (i : ℕ) → i < n → F.nonneg (F.neg (at Q F t i j)) ≡ false → Leads t j r i
+    pub positive : nonneg Q F (F.neg (at Q F t r j)) ≡ false
+    pub leads : (i : ℕ) → i < n → nonneg Q F (F.neg (at Q F t i j)) ≡ false → Leads t j r i
 
-  best-none : (t : Table Q) (j n : ℕ) → best_below Q F t j n ≡ None → (i : ℕ) → i < n → F.nonneg (F.neg (at Q F t i j)) ≡ true
+  best-none : (t : Table Q) (j n : ℕ) → best_below Q F t j n ≡ None → (i : ℕ) → i < n → nonneg Q F (F.neg (at Q F t i j)) ≡ true
   best-none t j zero e i l = absurd (omega arith)
   best-none t j (suc n) e i l = elim (cases_Bool (is_positive Q F (at Q F t n j))) [
     | inl p ↦ absurd (never (best_below Q F t j n) (rw p at e))
     | inr p ↦ elim (cases_eq i n) [
-      | inl same ↦ ap (λ x. F.nonneg (F.neg (at Q F t x j))) same ∙ not-false (F.nonneg (F.neg (at Q F t n j))) p
+      | inl same ↦ ap (λ x. nonneg Q F (F.neg (at Q F t x j))) same ∙ positive-false (at Q F t n j) p
       | inr ne ↦ best-none t j n (rw p at e) i (omega arith)
     ]
   ]
@@ -91,10 +104,10 @@ module _ (Q : Type 0) (F : Field Q) where
   best-more t j n r p None b ih e = (let same : n ≡ r = (cc) in
       record {
         below = omega arith;
-        positive = ap (λ x. F.nonneg (F.neg (at Q F t x j))) (sym same) ∙ not-true (F.nonneg (F.neg (at Q F t n j))) p;
+        positive = ap (λ x. nonneg Q F (F.neg (at Q F t x j))) (sym same) ∙ positive-true (at Q F t n j) p;
         leads = λ i l h. elim (cases_eq i n) [
           | inl here ↦ subst (λ x. Leads t j r x) (sym (here ∙ same)) (leads-self t j r)
-          | inr ne ↦ absurd (both_ways (F.nonneg (F.neg (at Q F t i j))) h (best-none t j n b i (omega arith)))
+          | inr ne ↦ absurd (both_ways (nonneg Q F (F.neg (at Q F t i j))) h (best-none t j n b i (omega arith)))
         ];
       })
   best-more t j n r p (Some k) b ih e =
@@ -105,7 +118,7 @@ module _ (Q : Type 0) (F : Field Q) where
             let lead : Leads t j n k = before-leads t j n k g in
             record {
               below = omega arith;
-              positive = ap (λ x. F.nonneg (F.neg (at Q F t x j))) (sym same) ∙ not-true (F.nonneg (F.neg (at Q F t n j))) p;
+              positive = ap (λ x. nonneg Q F (F.neg (at Q F t x j))) (sym same) ∙ positive-true (at Q F t n j) p;
               leads = λ i l h. elim (cases_eq i n) [
                 | inl here ↦ subst (λ x. Leads t j r x) (sym (here ∙ same)) (leads-self t j r)
                 | inr ne ↦ subst (λ x. Leads t j x i) same (leads-then t j n k i lead (old.leads i (omega arith) h))
@@ -114,7 +127,7 @@ module _ (Q : Type 0) (F : Field Q) where
         | inr g ↦ (let f : ◌≡◌ {A = Option ℕ} (Some k) (Some r) = rw g at e in let same : k ≡ r = (cc) in
             record {
               below = omega arith;
-              positive = ap (λ x. F.nonneg (F.neg (at Q F t x j))) (sym same) ∙ old.positive;
+              positive = ap (λ x. nonneg Q F (F.neg (at Q F t x j))) (sym same) ∙ old.positive;
               leads = λ i l h. elim (cases_eq i n) [
                 | inl here ↦ subst (λ x. Leads t j r x) (sym here) (subst (λ x. Leads t j x n) same (not_before-leads t j n k g))
                 | inr ne ↦ subst (λ x. Leads t j x i) same (old.leads i (omega arith) h)
@@ -131,7 +144,7 @@ module _ (Q : Type 0) (F : Field Q) where
           below = omega arith;
           positive = old.positive;
           leads = λ i l h. elim (cases_eq i n) [
-            | inl here ↦ absurd (both_ways (F.nonneg (F.neg (at Q F t i j))) h (ap (λ x. F.nonneg (F.neg (at Q F t x j))) here ∙ not-false (F.nonneg (F.neg (at Q F t n j))) p))
+            | inl here ↦ absurd (both_ways (nonneg Q F (F.neg (at Q F t i j))) h (ap (λ x. nonneg Q F (F.neg (at Q F t x j))) here ∙ positive-false (at Q F t n j) p))
             | inr ne ↦ old.leads i (omega arith) h
           ];
         })
@@ -141,17 +154,17 @@ module _ (Q : Type 0) (F : Field Q) where
   unfolding ratio_row
   ratio_row-is t j r e = best-is t j (length t.basis) r e
 
-  pub ratio_row-none : (t : Table Q) (j : ℕ) → ratio_row Q F t j ≡ None → (i : ℕ) → i < length t.basis → F.nonneg (F.neg (at Q F t i j)) ≡ true
+  pub ratio_row-none : (t : Table Q) (j : ℕ) → ratio_row Q F t j ≡ None → (i : ℕ) → i < length t.basis → nonneg Q F (F.neg (at Q F t i j)) ≡ true
   unfolding ratio_row
   ratio_row-none t j e = best-none t j (length t.basis) e
 
   pub zero-is : (x : Q) → is_zero Q F x ≡ true → x ≡ F.zero_q
-  zero-is x e = (let h = and_parts (F.nonneg x) (F.nonneg (F.neg x)) e in F.nonneg_both x h.0 h.1)
+  zero-is x e = (let h = and_parts (F.at_most x F.zero_q) (nonneg Q F x) e in F.nonneg_both x h.1 (sym (at_most_zero Q F x) ∙ h.0))
 
   zero-not : (x : Q) → is_zero Q F x ≡ false → x ≢ F.zero_q
-  zero-not x e z = elim (and_cases (F.nonneg x) (F.nonneg (F.neg x)) e) [
-    | inl h ↦ both_ways (F.nonneg x) h (ap F.nonneg z ∙ nonneg_zero Q F)
-    | inr h ↦ above-nonzero Q F x h z
+  zero-not x e z = elim (and_cases (F.at_most x F.zero_q) (nonneg Q F x) e) [
+    | inl h ↦ above-nonzero Q F x (sym (at_most_zero Q F x) ∙ h) z
+    | inr h ↦ both_ways (nonneg Q F x) h (ap (nonneg Q F) z ∙ nonneg_zero Q F)
   ]
 
   -- where a column is driven out
@@ -204,6 +217,6 @@ module _ (Q : Type 0) (F : Field Q) where
       let b : is_artificial Q F t i ≡ true = ap not (le-ltb (slice_index t.basis i) t.real a) in
       real_entry-none t i (map-none i (real_entry Q F t i) (rw b at h)) k lk
 
-  pub entering-none : (t : Table Q) (i : ℕ) → entering Q F t i ≡ None → (k : ℕ) → k < t.real → F.nonneg (at Q F t i k) ≡ true
+  pub entering-none : (t : Table Q) (i : ℕ) → entering Q F t i ≡ None → (k : ℕ) → k < t.real → nonneg Q F (at Q F t i k) ≡ true
   unfolding entering
-  entering-none t i e k l = not-false (F.nonneg (at Q F t i k)) (index-none (λ x. is_negative Q F (at Q F t i x)) t.real e k l)
+  entering-none t i e k l = not-false (nonneg Q F (at Q F t i k)) (index-none (λ x. is_negative Q F (at Q F t i x)) t.real e k l)

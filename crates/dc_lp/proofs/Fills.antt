@@ -10,22 +10,21 @@ use Rattle.dc_math.specs.RationalRing.{ring, reads, read_nat, same_form, linear�
 use Rattle.dc_math.specs.RationalField.{rationals}
 use Rattle.dc_math.specs.Inverse.{inverse, *ℚ-inverse}
 use Rattle.dc_math.specs.Order.{*ℚ_zero}
-use Rattle.dc_math.specs.Tests.{eq_ℚ-true, eq_ℚ_true, eq_ℚ_false}
+use Rattle.dc_math.specs.Tests.{eq_ℚ-true, eq_ℚ_true, eq_ℚ_false, is_zero}
 use Rattle.dc_lp.specs.Tables as tables
 use Rattle.dc_lp.specs.Tables.{Table}
-use Rattle.dc_lp.proofs.FieldTests.{zero_test}
-use Rattle.dc_lp.specs.Meanings.{at, is_zero, height, width, pivoted, divided, IsPivotPlace}
+use Rattle.dc_lp.specs.Meanings.{at, height, width, pivoted, divided, IsPivotPlace}
 use Rattle.dc_lp.specs.Fill.{is_filled, meets_gap, count_below, count_places, fill, gaps, entry_count}
 use Rattle.dc_lp.specs.Laws.{Fills, EntriesGrow}
 
 zero-is : (x : ℚ) → is_zero x ≡ true → x ≡ of_ℤ (pos 0)
-zero-is x e = eq_ℚ_true x (of_ℤ (pos 0)) (sym (zero_test x) ∙ e)
+zero-is x e = eq_ℚ_true x (of_ℤ (pos 0)) e
 
 is-zero : (x : ℚ) → x ≡ of_ℤ (pos 0) → is_zero x ≡ true
-is-zero x e = zero_test x ∙ eq_ℚ-true x (of_ℤ (pos 0)) e
+is-zero x e = eq_ℚ-true x (of_ℤ (pos 0)) e
 
 zero-not : (x : ℚ) → is_zero x ≡ false → x ≢ of_ℤ (pos 0)
-zero-not x e = eq_ℚ_false x (of_ℤ (pos 0)) (sym (zero_test x) ∙ e)
+zero-not x e = eq_ℚ_false x (of_ℤ (pos 0)) e
 
 same-zero : (x y : ℚ) → (x ≡ of_ℤ (pos 0) → y ≡ of_ℤ (pos 0)) → (y ≡ of_ℤ (pos 0) → x ≡ of_ℤ (pos 0)) → is_zero x ≡ is_zero y
 same-zero x y f g = same_from_decides {P = x ≡ of_ℤ (pos 0)} _ _ (zero-is x, is-zero x) (λ e. g (zero-is y e), λ h. is-zero y (f h))

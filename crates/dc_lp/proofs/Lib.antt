@@ -2,7 +2,6 @@ pub mod Firsts
 pub mod Belows
 pub mod Columns
 pub mod FoldSums
-pub mod FieldTests
 pub mod Duality
 pub mod Chosen
 pub mod Choices

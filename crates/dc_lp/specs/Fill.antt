@@ -1,8 +1,9 @@
 -- The fill of a pivot: how many entries are 0 before it and not 0 after it.
 use Rattle.std.specs.Prelude.{◌≡◌, ℕ, zero, suc, ◌+◌, ◌<◌, Bool, not, ◌&&◌, cond}
+use Rattle.dc_math.specs.Tests.{is_zero}
 use Rattle.dc_math.specs.Rational.{ℚ}
 use Rattle.dc_lp.specs.Tables.{Table}
-use Rattle.dc_lp.specs.Meanings.{at, is_zero, height, width, pivoted}
+use Rattle.dc_lp.specs.Meanings.{at, height, width, pivoted}
 
 -- how many of 0 to n - 1 pass
 abbrev pub count_below : ℕ → (ℕ → Bool) → ℕ

@@ -1,6 +1,7 @@
 -- What a tableau is for a contract: a table of rational numbers and its state. What must fit 128
 -- bits in a pivot.
 use Rattle.std.specs.Prelude.{◌≡◌, ℕ, zero, suc, ◌<◌, Bool, true, false, not, ◌&&◌, ◌||◌, ◌==◌, length, Option, Some, None, Result, Ok, Err, cond}
+use Rattle.dc_math.specs.Tests.{is_positive, is_zero}
 use Rattle.dc_math.specs.Rational.{ℚ, ◌*ℚ◌}
 use Rattle.dc_math.specs.RationalField.{rationals}
 use Rattle.dc_frac.specs.Fits.{difference_fits, product_fits, quotient_fits}
@@ -22,12 +23,6 @@ height t = tables.height ℚ rationals t
 
 abbrev pub at : Table ℚ → ℕ → ℕ → ℚ
 at t i k = tables.at ℚ rationals t i k
-
-abbrev pub is_positive : ℚ → Bool
-is_positive x = tables.is_positive ℚ rationals x
-
-abbrev pub is_zero : ℚ → Bool
-is_zero x = tables.is_zero ℚ rationals x
 
 abbrev pub start : Problem → Table ℚ
 start p = tables.start ℚ rationals (linear_of p)

@@ -6,7 +6,7 @@
 use Rattle.std.specs.Prelude.{ℕ, zero, suc, ◌+◌, Bool, not, ◌&&◌, ◌||◌, cond, List, [], map, length, slice_index, slice_index_or, slice_set, Option, Some, None, nat_lt, ◌==◌, if◌then◌else◌}
 use Rattle.std.specs.List.{range_with_len}
 use Rattle.std.specs.Option.{option_map, option_or}
-use Rattle.dc_math.specs.Field.{Field, minus}
+use Rattle.dc_math.specs.Field.{Field, minus, nonneg, is_below, is_negative, is_positive, is_zero}
 use Rattle.dc_lp.specs.Linear.{Linear}
 use Rattle.dc_lp.specs.Folds.{checked}
 
@@ -47,25 +47,13 @@ module _ (Q : Type 0) (F : Field Q) where
   abbrev pub at : Table Q → ℕ → ℕ → Q
   at t i k = slice_index_or (row_at t i) k F.zero_q
 
-  abbrev pub is_negative : Q → Bool
-  is_negative x = not (F.nonneg x)
-
-  abbrev pub is_positive : Q → Bool
-  is_positive x = not (F.nonneg (F.neg x))
-
-  abbrev pub is_zero : Q → Bool
-  is_zero x = F.nonneg x && F.nonneg (F.neg x)
-
-  abbrev pub is_below : Q → Q → Bool
-  is_below x y = is_negative (minus Q F x y)
-
   abbrev pub quotient : Q → Q → Q
   quotient x y = F.mul x (F.inverse y)
 
   -- The start. An equation whose right side is negative is negated.
 
   abbrev pub signed : Linear Q → ℕ → Q → Q
-  signed p i x = cond (F.nonneg (p.right_side i)) x (F.neg x)
+  signed p i x = cond (nonneg Q F (p.right_side i)) x (F.neg x)
 
   -- equation i over real columns, artificial columns and the right side
   unfoldable pub start_entry : Linear Q → ℕ → ℕ → Q
@@ -96,7 +84,7 @@ module _ (Q : Type 0) (F : Field Q) where
 
   -- the least real column with a negative entry in the row
   unfoldable pub entering : Table Q → ℕ → Option ℕ
-  entering t i = first_index (λ k. is_negative (at t i k)) t.real
+  entering t i = first_index (λ k. is_negative Q F (at t i k)) t.real
 
   -- the quotient of right side by entry
   abbrev pub ratio_of : Table Q → ℕ → ℕ → Q
@@ -105,8 +93,8 @@ module _ (Q : Type 0) (F : Field Q) where
   -- row i goes before row k: its quotient is less, or they tie and its basic column is less
   unfoldable pub goes_before : Table Q → ℕ → ℕ → ℕ → Bool
   goes_before t j i k =
-      is_below (ratio_of t j i) (ratio_of t j k)
-      || not (is_below (ratio_of t j k) (ratio_of t j i))
+      is_below Q F (ratio_of t j i) (ratio_of t j k)
+      || not (is_below Q F (ratio_of t j k) (ratio_of t j i))
       && nat_lt (slice_index t.basis i) (slice_index t.basis k)
 
   abbrev pub better : Table Q → ℕ → ℕ → Option ℕ → Option ℕ
@@ -117,14 +105,14 @@ module _ (Q : Type 0) (F : Field Q) where
   abbrev pub best_below : Table Q → ℕ → ℕ → Option ℕ
   best_below t j zero = None
   best_below t j (suc i) =
-      if is_positive (at t i j) then better t j i (best_below t j i) else best_below t j i
+      if is_positive Q F (at t i j) then better t j i (best_below t j i) else best_below t j i
 
   unfoldable pub ratio_row : Table Q → ℕ → Option ℕ
   ratio_row t j = best_below t j (length t.basis)
 
   -- the least real column with an entry in row i
   unfoldable pub real_entry : Table Q → ℕ → Option ℕ
-  real_entry t i = first_index (λ k. not (is_zero (at t i k))) t.real
+  real_entry t i = first_index (λ k. not (is_zero Q F (at t i k))) t.real
 
   abbrev pub is_artificial : Table Q → ℕ → Bool
   is_artificial t i = not (nat_lt (slice_index t.basis i) t.real)
@@ -145,7 +133,7 @@ module _ (Q : Type 0) (F : Field Q) where
   abbrev pub pivoted_entry : Table Q → ℕ → ℕ → ℕ → ℕ → Q
   pivoted_entry t r j i k =
       if i == r then divided t r j k
-      else if is_zero (at t i j) then at t i k
+      else if is_zero Q F (at t i j) then at t i k
       else minus Q F (at t i k) (F.mul (at t i j) (divided t r j k))
 
   unfoldable pub pivoted : Table Q → ℕ → ℕ → Table Q

@@ -1,6 +1,6 @@
 -- Solutions, duals, refutations and rays over any ordered field.
 use Rattle.std.specs.Prelude.{◌≡◌, ℕ, ◌+◌, ◌<◌, true, false, length, Some}
-use Rattle.dc_math.specs.Field.{Field, sum_to, minus}
+use Rattle.dc_math.specs.Field.{Field, sum_to, minus, nonneg}
 use Rattle.dc_lp.specs.Linear.{Linear}
 use Rattle.dc_lp.specs.Tables.{Table}
 use Rattle.dc_pivots.specs.Runs.{State, End, Ending, Infeasible, Optimal, Unbounded, due_at, run}
@@ -22,21 +22,21 @@ module _ (Q : Type 0) (F : Field Q) where
 
   pub record IsSolution (p : Linear Q) (x : ℕ → Q) : Type 0 where
     pub equations : (i : ℕ) → i < p.equations → left_side p x i ≡ p.right_side i
-    pub signs : (k : ℕ) → k < p.columns → F.nonneg (x k) ≡ true
+    pub signs : (k : ℕ) → k < p.columns → nonneg Q F (x k) ≡ true
 
   -- each column is priced at most its cost
   pub record IsDual (p : Linear Q) (y : ℕ → Q) : Type 0 where
-    pub prices : (k : ℕ) → k < p.columns → F.nonneg (minus Q F (p.cost k) (combined p y k)) ≡ true
+    pub prices : (k : ℕ) → k < p.columns → nonneg Q F (minus Q F (p.cost k) (combined p y k)) ≡ true
 
   -- a combination of the equations with no positive entry and a positive right side
   pub record IsRefutation (p : Linear Q) (y : ℕ → Q) : Type 0 where
-    pub columns : (k : ℕ) → k < p.columns → F.nonneg (F.neg (combined p y k)) ≡ true
-    pub right_side : F.nonneg (F.neg (combined_right p y)) ≡ false
+    pub columns : (k : ℕ) → k < p.columns → nonneg Q F (F.neg (combined p y k)) ≡ true
+    pub right_side : nonneg Q F (F.neg (combined_right p y)) ≡ false
 
   pub record IsRay (p : Linear Q) (x : ℕ → Q) : Type 0 where
     pub equations : (i : ℕ) → i < p.equations → left_side p x i ≡ F.zero_q
-    pub signs : (k : ℕ) → k < p.columns → F.nonneg (x k) ≡ true
-    pub falls : F.nonneg (cost_of p x) ≡ false
+    pub signs : (k : ℕ) → k < p.columns → nonneg Q F (x k) ≡ true
+    pub falls : nonneg Q F (cost_of p x) ≡ false
 
   pub record IsBest (p : Linear Q) (t : Table Q) : Type 0 where
     pub solution : IsSolution p (solution_at Q F t)

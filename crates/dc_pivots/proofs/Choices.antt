@@ -1,8 +1,8 @@
 -- Which pivot is due, and which end, by what enters, leaves and is driven out.
 use Rattle.std.proofs.Common.{◌≡◌, ◌≢◌, ℕ, ◌+◌, ◌⊎◌, inl, inr, true, false, length, Option, Some, None, refl, sym, ◌∙◌, ap, subst}
 use Rattle.std.proofs.lemmas.Bool.{cases_Bool}
-use Rattle.dc_math.specs.Field.{Field}
-use Rattle.dc_lp.specs.Tables.{Table, at, right, entering, ratio_row, drive_place, is_negative}
+use Rattle.dc_math.specs.Field.{Field, is_negative}
+use Rattle.dc_lp.specs.Tables.{Table, at, right, entering, ratio_row, drive_place}
 use Rattle.dc_pivots.specs.Runs.{Phase, One, Drive, Two, Ending, Infeasible, Optimal, Unbounded, Pivot, End, leave_two, enter_two, due_two, drive_out, due_drive, end_one, leave_one, enter_one, due_one, due}
 
 module _ (Q : Type 0) (F : Field Q) where

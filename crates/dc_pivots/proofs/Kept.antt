@@ -4,10 +4,10 @@ use Rattle.std.proofs.lemmas.Bool.{cases_Bool, cases_eq, not-false}
 use Rattle.std.proofs.lemmas.List.FromFn.{get_or-map-range_with_len, length-map-range_with_len}
 use Rattle.std.proofs.lemmas.List.{get_or-set_other}
 use Rattle.std.proofs.lemmas.Grind.{get_or-set_at}
-use Rattle.dc_math.specs.Field.{Field, sum_to, minus}
+use Rattle.dc_math.specs.Field.{Field, sum_to, minus, nonneg, is_negative, is_zero}
 use Rattle.dc_pivots.proofs.Rows.{Rows, pivot_at, basis_at}
 use Rattle.dc_lp.specs.Linear.{Linear}
-use Rattle.dc_lp.specs.Tables.{Table, at, right, is_zero, is_negative, ratio_of, entering, ratio_row, drive_place, start, start_entry, start_value, pivoted, pivoted_entry}
+use Rattle.dc_lp.specs.Tables.{Table, at, right, ratio_of, entering, ratio_row, drive_place, start, start_entry, start_value, pivoted, pivoted_entry}
 use Rattle.dc_pivots.specs.Runs.{Phase, One, Drive, Two}
 use Rattle.dc_pivots.proofs.Segment.{ratio, IsStep}
 use Rattle.dc_pivots.proofs.Ties.{IsTied, IsPriced, pivot-row, pivot-other, basis-row, basis-other, IsTied-pivot, IsPriced-pivot}
@@ -24,7 +24,7 @@ phase-cases Two = inr (inr refl)
 
 module _ (Q : Type 0) (F : Field Q) where
   -- sums of numbers that are at least 0
-  sum-nonneg : (k : ℕ) (f : ℕ → Q) → ((i : ℕ) → i < k → F.nonneg (f i) ≡ true) → F.nonneg (sum_to Q F k f) ≡ true
+  sum-nonneg : (k : ℕ) (f : ℕ → Q) → ((i : ℕ) → i < k → nonneg Q F (f i) ≡ true) → nonneg Q F (sum_to Q F k f) ≡ true
   unfolding sum_to
   sum-nonneg zero f h = nonneg_zero Q F
   sum-nonneg (suc k) f h = F.nonneg_add (sum_to Q F k f) (f k) (sum-nonneg k f (λ i l. h i (omega arith))) (h k (omega arith))
@@ -35,14 +35,14 @@ module _ (Q : Type 0) (F : Field Q) where
   less-right : (x y : Q) → F.add (F.neg (F.add x y)) y ≡ F.neg x
   less-right x y = ap (λ w. F.add w y) (neg_add Q F x y) ∙ F.add_assoc (F.neg x) (F.neg y) y ∙ ap (F.add (F.neg x)) (neg_back Q F y) ∙ F.add_zero (F.neg x)
 
-  sum-none_over : (k : ℕ) (f : ℕ → Q) → ((i : ℕ) → i < k → F.nonneg (f i) ≡ true) → F.nonneg (F.neg (sum_to Q F k f)) ≡ true → (i : ℕ) → i < k → f i ≡ F.zero_q
+  sum-none_over : (k : ℕ) (f : ℕ → Q) → ((i : ℕ) → i < k → nonneg Q F (f i) ≡ true) → nonneg Q F (F.neg (sum_to Q F k f)) ≡ true → (i : ℕ) → i < k → f i ≡ F.zero_q
   unfolding sum_to
   sum-none_over zero f h e i l = absurd (omega arith)
   sum-none_over (suc k) f h e i l =
-      let rest : F.nonneg (sum_to Q F k f) ≡ true = sum-nonneg k f (λ x lx. h x (omega arith)) in
+      let rest : nonneg Q F (sum_to Q F k f) ≡ true = sum-nonneg k f (λ x lx. h x (omega arith)) in
       elim (cases_eq i k) [
-        | inl same ↦ ap f same ∙ F.nonneg_both (f k) (h k (omega arith)) (ap F.nonneg (sym (less-left (sum_to Q F k f) (f k))) ∙ F.nonneg_add (F.neg (F.add (sum_to Q F k f) (f k))) (sum_to Q F k f) e rest)
-        | inr ne ↦ sum-none_over k f (λ x lx. h x (omega arith)) (ap F.nonneg (sym (less-right (sum_to Q F k f) (f k))) ∙ F.nonneg_add (F.neg (F.add (sum_to Q F k f) (f k))) (f k) e (h k (omega arith))) i (omega arith)
+        | inl same ↦ ap f same ∙ F.nonneg_both (f k) (h k (omega arith)) (ap (nonneg Q F) (sym (less-left (sum_to Q F k f) (f k))) ∙ F.nonneg_add (F.neg (F.add (sum_to Q F k f) (f k))) (sum_to Q F k f) e rest)
+        | inr ne ↦ sum-none_over k f (λ x lx. h x (omega arith)) (ap (nonneg Q F) (sym (less-right (sum_to Q F k f) (f k))) ∙ F.nonneg_add (F.neg (F.add (sum_to Q F k f) (f k))) (f k) e (h k (omega arith))) i (omega arith)
       ]
 
   mul-minus : (g x y : Q) → F.mul g (minus Q F x y) ≡ minus Q F (F.mul g x) (F.mul g y)
@@ -79,7 +79,7 @@ module _ (Q : Type 0) (F : Field Q) where
       pub tied : IsTied Q F m n s g c
       pub first : (w : ℕ → Q) × IsPriced Q F m n s g c (first_costs Q F p) (λ k. F.add (g m k) (first_costs Q F p k)) w
       pub last : (w : ℕ → Q) × IsPriced Q F m n s g c (last_costs Q F p) (λ k. g (m + 1) k) w
-      pub feasible : (i : ℕ) → i < m → F.nonneg (g i R) ≡ true
+      pub feasible : (i : ℕ) → i < m → nonneg Q F (g i R) ≡ true
       pub range : (i : ℕ) → i < m → c i < n + m
       pub dry : phase ≢ One → (i : ℕ) → i < m → n ≤ c i → g i R ≡ F.zero_q
       pub clear : phase ≡ Two → (i : ℕ) → i < m → n ≤ c i → (k : ℕ) → k < n → g i k ≡ F.zero_q
@@ -195,7 +195,7 @@ module _ (Q : Type 0) (F : Field Q) where
         record {
           row = omega arith;
           column = omega arith;
-          nonzero = above-nonzero Q F (g r j) (ap (λ y. F.nonneg (F.neg y)) (sym (h.entries r j (omega arith) (omega arith))) ∙ b.positive);
+          nonzero = above-nonzero Q F (g r j) (ap (λ y. nonneg Q F (F.neg y)) (sym (h.entries r j (omega arith) (omega arith))) ∙ b.positive);
         }
 
     driven-place : (t : Table Q) (g : Rows Q F m n) (c : ℕ → ℕ) (r j : ℕ) → IsShadow t g c → drive_place Q F t ≡ Some (r, j) → IsPlace g r j
@@ -223,30 +223,30 @@ module _ (Q : Type 0) (F : Field Q) where
         let lr : r < m = l.row in
         let lj : j < n = l.column in
         let long : length t.basis ≡ m = h.long in
-        let lead : (i : ℕ) → i < m → F.nonneg (F.neg (g i j)) ≡ false → Leads Q F t j r i = (λ i li pos. b.leads i (omega arith) (ap (λ y. F.nonneg (F.neg y)) (h.entries i j (omega arith) (omega arith)) ∙ pos)) in
+        let lead : (i : ℕ) → i < m → nonneg Q F (F.neg (g i j)) ≡ false → Leads Q F t j r i = (λ i li pos. b.leads i (omega arith) (ap (λ y. nonneg Q F (F.neg y)) (h.entries i j (omega arith) (omega arith)) ∙ pos)) in
         record {
           row = lr;
           real = lj;
-          negative = ap F.nonneg (same j lj ∙ sym (h.entries a j la (omega arith))) ∙ x.1;
-          least = λ k lk. ap F.nonneg (same k (omega arith) ∙ sym (h.entries a k la (omega arith))) ∙ x.2 k lk;
-          positive = ap (λ y. F.nonneg (F.neg y)) (sym (h.entries r j (omega arith) (omega arith))) ∙ b.positive;
-          best = λ i li pos. ap F.nonneg (ap (λ y. minus Q F y (ratio Q F m n g j r)) (sym (ratio-same t g c h r j l i li)) ∙ ap (minus Q F (ratio_of Q F t j i)) (sym (ratio-same t g c h r j l r lr))) ∙ (lead i li pos).best;
-          tie = λ i li pos eq. (let under : slice_index t.basis r ≤ slice_index t.basis i = (lead i li pos).tie (ap F.nonneg (ap (λ y. minus Q F y (ratio_of Q F t j i)) (ratio-same t g c h r j l r lr) ∙ ap (minus Q F (ratio Q F m n g j r)) (ratio-same t g c h r j l i li)) ∙ eq) in
+          negative = ap (nonneg Q F) (same j lj ∙ sym (h.entries a j la (omega arith))) ∙ x.1;
+          least = λ k lk. ap (nonneg Q F) (same k (omega arith) ∙ sym (h.entries a k la (omega arith))) ∙ x.2 k lk;
+          positive = ap (λ y. nonneg Q F (F.neg y)) (sym (h.entries r j (omega arith) (omega arith))) ∙ b.positive;
+          best = λ i li pos. ap (nonneg Q F) (ap (λ y. minus Q F y (ratio Q F m n g j r)) (sym (ratio-same t g c h r j l i li)) ∙ ap (minus Q F (ratio_of Q F t j i)) (sym (ratio-same t g c h r j l r lr))) ∙ (lead i li pos).best;
+          tie = λ i li pos eq. (let under : slice_index t.basis r ≤ slice_index t.basis i = (lead i li pos).tie (ap (nonneg Q F) (ap (λ y. minus Q F y (ratio_of Q F t j i)) (ratio-same t g c h r j l r lr) ∙ ap (minus Q F (ratio Q F m n g j r)) (ratio-same t g c h r j l i li)) ∙ eq) in
               let br : slice_index t.basis r ≡ c r = h.basis r lr in
               let bi : slice_index t.basis i ≡ c i = h.basis i li in omega arith);
         }
 
     -- right sides stay at least 0
-    feasible-chosen : (g : Rows Q F m n) (c : ℕ → ℕ) (z : ℕ → Q) (r j : ℕ) → IsStep Q F m n g c z r j → ((i : ℕ) → i < m → F.nonneg (g i R) ≡ true) → (i : ℕ) → i < m → F.nonneg (pivot_at Q F m n g r j i R) ≡ true
+    feasible-chosen : (g : Rows Q F m n) (c : ℕ → ℕ) (z : ℕ → Q) (r j : ℕ) → IsStep Q F m n g c z r j → ((i : ℕ) → i < m → nonneg Q F (g i R) ≡ true) → (i : ℕ) → i < m → nonneg Q F (pivot_at Q F m n g r j i R) ≡ true
     feasible-chosen g c z r j st h i li =
         let nz : g r j ≢ F.zero_q = above-nonzero Q F (g r j) st.positive in
         let rho : Q = ratio Q F m n g j r in
-        let up : F.nonneg rho ≡ true = F.nonneg_mul (g r R) (F.inverse (g r j)) (h r st.row) (inverse-nonneg Q F (g r j) st.positive) in
+        let up : nonneg Q F rho ≡ true = F.nonneg_mul (g r R) (F.inverse (g r j)) (h r st.row) (inverse-nonneg Q F (g r j) st.positive) in
         elim (cases_eq i r) [
-          | inl same ↦ ap F.nonneg (ap (λ x. pivot_at Q F m n g r j x R) same ∙ pivot-row Q F m n s g c r j st.row nz R) ∙ up
-          | inr ne ↦ ap F.nonneg (pivot-other Q F m n s g c r j st.row nz i R ne) ∙ elim (cases_Bool (F.nonneg (F.neg (g i j)))) [
-            | inl down ↦ F.nonneg_add (g i R) (F.neg (F.mul (g i j) rho)) (h i li) (ap F.nonneg (sym (neg_mul Q F (g i j) rho)) ∙ F.nonneg_mul (F.neg (g i j)) rho down up)
-            | inr pos ↦ ap F.nonneg (sym (mul-minus (g i j) (ratio Q F m n g j i) rho ∙ ap (λ x. minus Q F x (F.mul (g i j) rho)) (inverse-back Q F (g i R) (g i j) (above-nonzero Q F (g i j) pos))))
+          | inl same ↦ ap (nonneg Q F) (ap (λ x. pivot_at Q F m n g r j x R) same ∙ pivot-row Q F m n s g c r j st.row nz R) ∙ up
+          | inr ne ↦ ap (nonneg Q F) (pivot-other Q F m n s g c r j st.row nz i R ne) ∙ elim (cases_Bool (nonneg Q F (F.neg (g i j)))) [
+            | inl down ↦ F.nonneg_add (g i R) (F.neg (F.mul (g i j) rho)) (h i li) (ap (nonneg Q F) (sym (neg_mul Q F (g i j) rho)) ∙ F.nonneg_mul (F.neg (g i j)) rho down up)
+            | inr pos ↦ ap (nonneg Q F) (sym (mul-minus (g i j) (ratio Q F m n g j i) rho ∙ ap (λ x. minus Q F x (F.mul (g i j) rho)) (inverse-back Q F (g i R) (g i j) (above-nonzero Q F (g i j) pos))))
                 ∙ F.nonneg_mul (g i j) (minus Q F (ratio Q F m n g j i) rho) (above-nonneg Q F (g i j) pos) (st.best i li pos)
           ]
         ]
@@ -271,11 +271,11 @@ module _ (Q : Type 0) (F : Field Q) where
         let d : ℕ → Q = first_costs Q F p in
         let f : ℕ → Q = λ x. F.mul (d (c x)) (g x R) in
         let place_right : right Q F t ≡ R = ap (λ x. x + length t.basis) k.shadow.real ∙ ap (λ x. n + x) k.shadow.long in
-        let value : F.nonneg (g m R) ≡ true = ap F.nonneg (sym (ap (λ x. at Q F t x (right Q F t)) k.shadow.long ∙ ap (at Q F t m) place_right ∙ k.shadow.entries m R (omega arith) (omega arith))) ∙ not-false (F.nonneg (at Q F t (length t.basis) (right Q F t))) e in
+        let value : nonneg Q F (g m R) ≡ true = ap (nonneg Q F) (sym (ap (λ x. at Q F t x (right Q F t)) k.shadow.long ∙ ap (at Q F t m) place_right ∙ k.shadow.entries m R (omega arith) (omega arith))) ∙ not-false (nonneg Q F (at Q F t (length t.basis) (right Q F t))) e in
         let total : Q = sum_to Q F m f in
         let sums : F.add (g m R) total ≡ F.zero_q = ap (λ x. F.add x total) (sym (ap (F.add (g m R)) (first_costs-right Q F p) ∙ F.add_zero (g m R))) ∙ (k.first.1.prices R ∙ first_costs-right Q F p) in
         let down : F.neg total ≡ g m R = sym (sym (F.add_zero (g m R)) ∙ ap (F.add (g m R)) (sym (F.add_neg total)) ∙ sym (F.add_assoc (g m R) total (F.neg total)) ∙ ap (λ x. F.add x (F.neg total)) sums ∙ zero_add Q F (F.neg total)) in
-        let none : f i ≡ F.zero_q = sum-none_over m f (λ x lx. F.nonneg_mul (d (c x)) (g x R) (first_costs-nonneg Q F p (c x)) (k.feasible x lx)) (ap F.nonneg down ∙ value) i li in
+        let none : f i ≡ F.zero_q = sum-none_over m f (λ x lx. F.nonneg_mul (d (c x)) (g x R) (first_costs-nonneg Q F p (c x)) (k.feasible x lx)) (ap (nonneg Q F) down ∙ value) i li in
         sym (F.mul_one (g i R)) ∙ F.mul_comm (g i R) F.one ∙ ap (λ x. F.mul x (g i R)) (sym (first_costs-artificial Q F p (c i) up (k.range i li))) ∙ none
 
     -- once phase one is over the artificial columns that are basic are 0
@@ -319,8 +319,8 @@ module _ (Q : Type 0) (F : Field Q) where
         sym (k.shadow.entries i x (omega arith) (omega arith)) ∙ drive-none Q F t d i (omega arith) (omega arith) x (omega arith)
     clear-before phase t g c r j k (stays_two e f) i li up x lx = k.clear refl i li up x lx
 
-    feasible-driven : (g : Rows Q F m n) (c : ℕ → ℕ) (r j : ℕ) → IsPlace g r j → g r R ≡ F.zero_q → ((i : ℕ) → i < m → F.nonneg (g i R) ≡ true) → (i : ℕ) → i < m → F.nonneg (pivot_at Q F m n g r j i R) ≡ true
-    feasible-driven g c r j l z h i li = ap F.nonneg (right-driven g c r j i l z) ∙ h i li
+    feasible-driven : (g : Rows Q F m n) (c : ℕ → ℕ) (r j : ℕ) → IsPlace g r j → g r R ≡ F.zero_q → ((i : ℕ) → i < m → nonneg Q F (g i R) ≡ true) → (i : ℕ) → i < m → nonneg Q F (pivot_at Q F m n g r j i R) ≡ true
+    feasible-driven g c r j l z h i li = ap (nonneg Q F) (right-driven g c r j i l z) ∙ h i li
 
     -- the costs of phase one are those of the row in real columns
     pub first-real : (g : Rows Q F m n) (k : ℕ) → k < n → F.add (g m k) (first_costs Q F p k) ≡ g m k
@@ -332,7 +332,7 @@ module _ (Q : Type 0) (F : Field Q) where
     pub step-two : (t : Table Q) (g : Rows Q F m n) (c : ℕ → ℕ) (r j : ℕ) → IsShadow t g c → entering Q F t (length t.basis + 1) ≡ Some j → ratio_row Q F t j ≡ Some r → IsStep Q F m n g c (λ k. g (m + 1) k) r j
     step-two t g c r j h e f = step-chosen t g c (λ k. g (m + 1) k) r j (m + 1) h (omega arith) (λ k l. refl) (ap (λ x. entering Q F t (x + 1)) (sym h.long) ∙ e) f
 
-    feasible-pivot : (phase q : Phase) (t : Table Q) (g : Rows Q F m n) (c : ℕ → ℕ) (r j : ℕ) → Kept phase t g c → Move Q F t phase q r j → (i : ℕ) → i < m → F.nonneg (pivot_at Q F m n g r j i R) ≡ true
+    feasible-pivot : (phase q : Phase) (t : Table Q) (g : Rows Q F m n) (c : ℕ → ℕ) (r j : ℕ) → Kept phase t g c → Move Q F t phase q r j → (i : ℕ) → i < m → nonneg Q F (pivot_at Q F m n g r j i R) ≡ true
     feasible-pivot phase q t g c r j k (stays_one e f) = feasible-chosen g c (λ x. F.add (g m x) (first_costs Q F p x)) r j (step-one t g c r j k.shadow e f) k.feasible
     feasible-pivot phase q t g c r j k (ends_one e f) = feasible-driven g c r j (driven-place t g c r j k.shadow f) (dry-end phase t g c k e r ((driven-place t g c r j k.shadow f).row) (driven-artificial phase t g c r j k f)) k.feasible
     feasible-pivot phase q t g c r j k (drives f) = feasible-driven g c r j (driven-place t g c r j k.shadow f) (k.dry drive-one r ((driven-place t g c r j k.shadow f).row) (driven-artificial phase t g c r j k f)) k.feasible

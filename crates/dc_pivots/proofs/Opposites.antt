@@ -1,10 +1,10 @@
 -- A row leaves in phase one; opposite columns.
 use Rattle.std.proofs.Common.{◌≡◌, ◌≢◌, ℕ, zero, suc, ◌+◌, ◌<◌, ◌≤◌, ◌⊎◌, inl, inr, ◌==◌, true, cond, nat_lt, length, slice_index, Option, Some, None, refl, sym, ◌∙◌, ap, subst, arith, eq-eqb}
 use Rattle.std.proofs.lemmas.Bool.{ne_eqb, cases_Bool, cases_eq, both_ways, eqb-true, lt-ltb}
-use Rattle.dc_math.specs.Field.{Field, sum_to, minus}
+use Rattle.dc_math.specs.Field.{Field, sum_to, minus, nonneg, is_negative}
 use Rattle.dc_pivots.proofs.Rows.{Rows, pivot_at}
 use Rattle.dc_lp.specs.Linear.{Linear}
-use Rattle.dc_lp.specs.Tables.{Table, at, right, entering, ratio_row, drive_place, is_negative, signed, start_entry, start_value, minus_sum}
+use Rattle.dc_lp.specs.Tables.{Table, at, right, entering, ratio_row, drive_place, signed, start_entry, start_value, minus_sum}
 use Rattle.dc_pivots.specs.Runs.{Phase, One, Drive, Two, Infeasible, Unbounded, Due, Pivot, End, State, due, due_at, due_one, due_two, due_drive, end_one, enter_one, leave_one, enter_two, leave_two, drive_out, run, Basic}
 use Rattle.dc_pivots.proofs.Segment.{Has}
 use Rattle.dc_pivots.specs.Vectors.{basic_row, direction_at}
@@ -51,13 +51,13 @@ module _ (Q : Type 0) (F : Field Q) (p : Linear Q) where
       let d : ℕ → Q = first_costs Q F p in
       let z : Q = F.add (g m j) (d j) in
       let total : Q = sum_to Q F m (λ i. F.mul (d (c i)) (g i j)) in
-      let down : F.nonneg (F.neg total) ≡ true = no_more Q F m n m (λ i. F.mul (d (c i)) (g i j)) (λ i l.
-      (let a : F.nonneg (F.neg (g i j)) ≡ true = ap (λ y. F.nonneg (F.neg y)) (sym (k.shadow.entries i j (omega arith) (omega arith))) ∙ ratio_row-none Q F t j f i (omega arith) in
-      ap F.nonneg (sym (mul_neg Q F (d (c i)) (g i j))) ∙ F.nonneg_mul (d (c i)) (F.neg (g i j)) (first_costs-nonneg Q F p (c i)) a)) in
+      let down : nonneg Q F (F.neg total) ≡ true = no_more Q F m n m (λ i. F.mul (d (c i)) (g i j)) (λ i l.
+      (let a : nonneg Q F (F.neg (g i j)) ≡ true = ap (λ y. nonneg Q F (F.neg y)) (sym (k.shadow.entries i j (omega arith) (omega arith))) ∙ ratio_row-none Q F t j f i (omega arith) in
+      ap (nonneg Q F) (sym (mul_neg Q F (d (c i)) (g i j))) ∙ F.nonneg_mul (d (c i)) (F.neg (g i j)) (first_costs-nonneg Q F p (c i)) a)) in
       let sums : F.add z total ≡ F.zero_q = k.first.1.prices j ∙ first_costs-real Q F p j jn in
       let same : F.neg total ≡ z = sym (sym (F.add_zero z) ∙ ap (F.add z) (sym (F.add_neg total)) ∙ sym (F.add_assoc z total (F.neg total)) ∙ ap (λ y. F.add y (F.neg total)) sums ∙ zero_add Q F (F.neg total)) in
-      both_ways (F.nonneg (at Q F t (length t.basis) j)) x.1
-      (ap F.nonneg (ap (λ y. at Q F t y j) long ∙ k.shadow.entries m j (omega arith) (omega arith) ∙ sym (first-real Q F p g j jn) ∙ sym same) ∙ down)
+      both_ways (nonneg Q F (at Q F t (length t.basis) j)) x.1
+      (ap (nonneg Q F) (ap (λ y. at Q F t y j) long ∙ k.shadow.entries m j (omega arith) (omega arith) ∙ sym (first-real Q F p g j jn) ∙ sym same) ∙ down)
 
   -- where a column enters in phase one, a row leaves
   pub phase_one-leaves : PhaseOneLeaves Q F p
@@ -65,7 +65,7 @@ module _ (Q : Type 0) (F : Field Q) (p : Linear Q) where
 
   module _ (u v : ℕ) (o : AreOpposite Q F p u v) where
     signed-opposite : (i : ℕ) (x y : Q) → x ≡ F.neg y → signed Q F p i x ≡ F.neg (signed Q F p i y)
-    signed-opposite i x y e = elim (cases_Bool (F.nonneg (p.right_side i))) [ inl b ↦ rw b e | inr b ↦ rw b (ap F.neg e) ]
+    signed-opposite i x y e = elim (cases_Bool (nonneg Q F (p.right_side i))) [ inl b ↦ rw b e | inr b ↦ rw b (ap F.neg e) ]
 
     entry-opposite : (i : ℕ) → start_entry Q F p i u ≡ F.neg (start_entry Q F p i v)
     unfolding start_entry

@@ -1,10 +1,10 @@
 -- What the end of a run shows, over any ordered field.
 use Rattle.std.proofs.Common.{◌≡◌, ◌≢◌, ℕ, zero, suc, ◌+◌, ◌<◌, ◌≤◌, ◌⊎◌, inl, inr, ◌==◌, Bool, true, false, cond, length, slice_index, Option, Some, None, refl, sym, ◌∙◌, ap, subst, arith, eq-eqb}
 use Rattle.std.proofs.lemmas.Bool.{ne_eqb, cases_Bool, cases_eq, cases_lt, eqb-true, lt-ltb, le-ltb, not-true}
-use Rattle.dc_math.specs.Field.{Field, sum_to, minus}
+use Rattle.dc_math.specs.Field.{Field, sum_to, minus, nonneg, is_negative}
 use Rattle.dc_pivots.proofs.Rows.{Rows}
 use Rattle.dc_lp.specs.Linear.{Linear}
-use Rattle.dc_lp.specs.Tables.{Table, at, right, entering, ratio_row, drive_place, is_negative, first_index, signed, start_entry, start_value}
+use Rattle.dc_lp.specs.Tables.{Table, at, right, entering, ratio_row, drive_place, first_index, signed, start_entry, start_value}
 use Rattle.dc_pivots.specs.Runs.{Phase, Two, Ending}
 use Rattle.dc_pivots.proofs.Segment.{Has}
 use Rattle.dc_pivots.specs.Vectors.{basic_row, entry_or_zero, solution_at, direction_at, multiplier_at, value_of}
@@ -71,22 +71,22 @@ module _ (Q : Type 0) (F : Field Q) where
 
     -- signs on both sides
     unsigned : (i : ℕ) (x y : Q) → signed Q F p i x ≡ signed Q F p i y → x ≡ y
-    unsigned i x y e = elim (cases_Bool (F.nonneg (p.right_side i))) [
+    unsigned i x y e = elim (cases_Bool (nonneg Q F (p.right_side i))) [
       | inl b ↦ (let f : x ≡ y = rw b at e in f)
       | inr b ↦ (let f : F.neg x ≡ F.neg y = rw b at e in sym (neg_neg Q F x) ∙ ap F.neg f ∙ neg_neg Q F y)
     ]
 
     signed-zero : (i : ℕ) (x : Q) → signed Q F p i x ≡ F.zero_q → x ≡ F.zero_q
-    signed-zero i x e = elim (cases_Bool (F.nonneg (p.right_side i))) [
+    signed-zero i x e = elim (cases_Bool (nonneg Q F (p.right_side i))) [
       | inl b ↦ (let f : x ≡ F.zero_q = rw b at e in f)
       | inr b ↦ (let f : F.neg x ≡ F.zero_q = rw b at e in sym (neg_neg Q F x) ∙ ap F.neg f ∙ neg_zero Q F)
     ]
 
     signed-times : (i : ℕ) (x y : Q) → F.mul (signed Q F p i x) y ≡ signed Q F p i (F.mul x y)
-    signed-times i x y = elim (cases_Bool (F.nonneg (p.right_side i))) [ inl b ↦ rw b refl | inr b ↦ rw b (neg_mul Q F x y) ]
+    signed-times i x y = elim (cases_Bool (nonneg Q F (p.right_side i))) [ inl b ↦ rw b refl | inr b ↦ rw b (neg_mul Q F x y) ]
 
     signed-sum : (i k : ℕ) (f : ℕ → Q) → sum_to Q F k (λ x. signed Q F p i (f x)) ≡ signed Q F p i (sum_to Q F k f)
-    signed-sum i k f = elim (cases_Bool (F.nonneg (p.right_side i))) [ inl b ↦ rw b refl | inr b ↦ rw b (neg-sum k f) ]
+    signed-sum i k f = elim (cases_Bool (nonneg Q F (p.right_side i))) [ inl b ↦ rw b refl | inr b ↦ rw b (neg-sum k f) ]
 
     left-signed : (i : ℕ) (x : ℕ → Q) → sum_to Q F n (λ k. F.mul (s i k) (x k)) ≡ signed Q F p i (left_side Q F p x i)
     left-signed i x = sum-same Q F n (λ k. F.mul (s i k) (x k)) (λ k. signed Q F p i (F.mul (p.coefficient i k) (x k)))
@@ -94,8 +94,8 @@ module _ (Q : Type 0) (F : Field Q) where
         ∙ signed-sum i n (λ k. F.mul (p.coefficient i k) (x k))
 
     -- the multiplier times the equation is minus the entry times the starting row
-    signed-product : (i : ℕ) (a x : Q) → F.mul (cond (F.nonneg (p.right_side i)) (F.neg a) a) x ≡ F.neg (F.mul a (signed Q F p i x))
-    signed-product i a x = elim (cases_Bool (F.nonneg (p.right_side i))) [
+    signed-product : (i : ℕ) (a x : Q) → F.mul (cond (nonneg Q F (p.right_side i)) (F.neg a) a) x ≡ F.neg (F.mul a (signed Q F p i x))
+    signed-product i a x = elim (cases_Bool (nonneg Q F (p.right_side i))) [
       | inl b ↦ rw b (neg_mul Q F a x)
       | inr b ↦ rw b (sym (ap F.neg (mul_neg Q F a x) ∙ neg_neg Q F (F.mul a x)))
     ]
@@ -141,11 +141,11 @@ module _ (Q : Type 0) (F : Field Q) where
       solution-is j = ap (λ x. entry_or_zero Q F t x (basic_row t j)) right-is
 
       -- what is placed is at least 0 where the column is
-      placed-nonneg : (a : ℕ) → ((i : ℕ) → i < m → F.nonneg (at Q F t i a) ≡ true) → (j : ℕ) → F.nonneg (entry_or_zero Q F t a (basic_row t j)) ≡ true
+      placed-nonneg : (a : ℕ) → ((i : ℕ) → i < m → nonneg Q F (at Q F t i a) ≡ true) → (j : ℕ) → nonneg Q F (entry_or_zero Q F t a (basic_row t j)) ≡ true
       unfolding basic_row
       placed-nonneg a h j = by (first_index (λ i. slice_index t.basis i == j) (length t.basis)) refl
         where
-          by : (o : Option ℕ) → first_index (λ i. slice_index t.basis i == j) (length t.basis) ≡ o → F.nonneg (entry_or_zero Q F t a o) ≡ true
+          by : (o : Option ℕ) → first_index (λ i. slice_index t.basis i == j) (length t.basis) ≡ o → nonneg Q F (entry_or_zero Q F t a o) ≡ true
           by None e = nonneg_zero Q F
           by (Some i) e = (let long : length t.basis ≡ m = k.shadow.long in let r = index-some (λ x. slice_index t.basis x == j) (length t.basis) i e in let low : i < length t.basis = r.0 in h i (omega arith))
 
@@ -155,7 +155,7 @@ module _ (Q : Type 0) (F : Field Q) where
             sym (left-signed i (solution_at Q F t))
             ∙ sum-same Q F n (λ j. F.mul (s i j) (solution_at Q F t j)) (λ j. F.mul (s i j) (entry_or_zero Q F t R (basic_row t j))) (λ j lj. ap (F.mul (s i j)) (solution-is j))
             ∙ placed-sum R (s i) (omega arith) dry ∙ sym (k.tied.restores i R l) ∙ entry-right Q F p i);
-        signs = λ j l. ap F.nonneg (solution-is j) ∙ placed-nonneg R (λ i li. ap F.nonneg (k.shadow.entries i R (omega arith) (omega arith)) ∙ k.feasible i li) j;
+        signs = λ j l. ap (nonneg Q F) (solution-is j) ∙ placed-nonneg R (λ i li. ap (nonneg Q F) (k.shadow.entries i R (omega arith) (omega arith)) ∙ k.feasible i li) j;
       }
 
       -- the factors of a cost row are its artificial entries
@@ -203,12 +203,12 @@ module _ (Q : Type 0) (F : Field Q) where
       unfolding start_value
       last_costs-real j l = (let up : m ≤ m + 1 = omega arith in let ne : m + 1 ≢ m = omega arith in rw (le-ltb (m + 1) m up, ne_eqb (m + 1) m ne, lt-ltb j n l) refl)
 
-      refutes : is_negative Q F (at Q F t (length t.basis) (right Q F t)) ≡ true → ((j : ℕ) → j < n → F.nonneg (g m j) ≡ true) → IsRefutation Q F p (multiplier_at Q F p t (length t.basis))
+      refutes : is_negative Q F (at Q F t (length t.basis) (right Q F t)) ≡ true → ((j : ℕ) → j < n → nonneg Q F (g m j) ≡ true) → IsRefutation Q F p (multiplier_at Q F p t (length t.basis))
       refutes neg all =
           subst (λ a. IsRefutation Q F p (multiplier_at Q F p t a)) (sym k.shadow.long) (record {
-            columns = λ j l. ap (λ x. F.nonneg (F.neg x)) (combined-is m w1 j (omega arith) first-factors l ∙ ap F.neg (sym (first-row j))) ∙ ap F.nonneg (neg_neg Q F (g m j)) ∙ all j l;
-            right_side = ap (λ x. F.nonneg (F.neg x)) (combined_right-is m w1 (omega arith) first-factors ∙ ap F.neg (sym (first-row R))) ∙ ap F.nonneg (neg_neg Q F (g m R)
-                ∙ sym (k.shadow.entries m R (omega arith) (omega arith)) ∙ ap (at Q F t m) (sym right-is) ∙ ap (λ x. at Q F t x (right Q F t)) (sym k.shadow.long)) ∙ not-true (F.nonneg (at Q F t (length t.basis) (right Q F t))) neg;
+            columns = λ j l. ap (λ x. nonneg Q F (F.neg x)) (combined-is m w1 j (omega arith) first-factors l ∙ ap F.neg (sym (first-row j))) ∙ ap (nonneg Q F) (neg_neg Q F (g m j)) ∙ all j l;
+            right_side = ap (λ x. nonneg Q F (F.neg x)) (combined_right-is m w1 (omega arith) first-factors ∙ ap F.neg (sym (first-row R))) ∙ ap (nonneg Q F) (neg_neg Q F (g m R)
+                ∙ sym (k.shadow.entries m R (omega arith) (omega arith)) ∙ ap (at Q F t m) (sym right-is) ∙ ap (λ x. at Q F t x (right Q F t)) (sym k.shadow.long)) ∙ not-true (nonneg Q F (at Q F t (length t.basis) (right Q F t))) neg;
           })
 
       last-right : last_costs Q F p R ≡ F.zero_q
@@ -227,15 +227,15 @@ module _ (Q : Type 0) (F : Field Q) where
           ∙ placed-sum a (last_costs Q F p) la far)
           ∙ k.last.1.prices a
 
-      best : ((i : ℕ) → i < m → n ≤ c i → g i R ≡ F.zero_q) → ((j : ℕ) → j < n → F.nonneg (g (m + 1) j) ≡ true) → IsBest Q F p t
+      best : ((i : ℕ) → i < m → n ≤ c i → g i R ≡ F.zero_q) → ((j : ℕ) → j < n → nonneg Q F (g (m + 1) j) ≡ true) → IsBest Q F p t
       best dry all =
           let long : length t.basis ≡ m = k.shadow.long in
           record {
             solution = solves dry;
             dual = subst (λ a. IsDual Q F p (multiplier_at Q F p t (a + 1))) (sym long) (record {
               prices = λ j l. (let total : Q = sum_to Q F m (λ l. F.mul (w2 l) (s l j)) in
-                  ap (λ x. F.nonneg (minus Q F (p.cost j) x)) (combined-is (m + 1) w2 j (omega arith) last-factors l)
-                  ∙ ap F.nonneg (ap (F.add (p.cost j)) (neg_neg Q F total) ∙ ap (λ x. F.add x total) (sym (last_costs-real j l)) ∙ sym (k.last.1.combines j)) ∙ all j l);
+                  ap (λ x. nonneg Q F (minus Q F (p.cost j) x)) (combined-is (m + 1) w2 j (omega arith) last-factors l)
+                  ∙ ap (nonneg Q F) (ap (F.add (p.cost j)) (neg_neg Q F total) ∙ ap (λ x. F.add x total) (sym (last_costs-real j l)) ∙ sym (k.last.1.combines j)) ∙ all j l);
             });
             cost = sum-same Q F n (λ j. F.mul (p.cost j) (solution_at Q F t j)) (λ j. F.mul (p.cost j) (entry_or_zero Q F t R (basic_row t j))) (λ j l. ap (F.mul (p.cost j)) (solution-is j))
                 ∙ opposite (g (m + 1) R) (sum_to Q F n (λ j. F.mul (p.cost j) (entry_or_zero Q F t R (basic_row t j)))) (costs-sum R (omega arith) dry ∙ last-right)
@@ -268,7 +268,7 @@ module _ (Q : Type 0) (F : Field Q) where
             ∙ ap (λ y. F.add y (sum_to Q F n (λ x. F.neg (F.mul (f x) (step x))))) (sum-unit Q F n j f (λ x. cond (x == j) F.one F.zero_q) lj (λ x l. refl))
             ∙ ap (F.add (f j)) (neg-sum n (λ x. F.mul (f x) (step x)))
 
-        falls-along : F.nonneg (g (m + 1) j) ≡ false → ((i : ℕ) → i < m → F.nonneg (F.neg (at Q F t i j)) ≡ true) → IsRay Q F p (direction_at Q F t j)
+        falls-along : nonneg Q F (g (m + 1) j) ≡ false → ((i : ℕ) → i < m → nonneg Q F (F.neg (at Q F t i j)) ≡ true) → IsRay Q F p (direction_at Q F t j)
         falls-along down under = record {
           equations = λ i l. signed-zero i (left_side Q F p (direction_at Q F t j) i) (
               sym (left-signed i (direction_at Q F t j)) ∙ along (s i)
@@ -277,14 +277,14 @@ module _ (Q : Type 0) (F : Field Q) where
             | inl e ↦ rw (eq-eqb x j e) (nonneg_one Q F)
             | inr ne ↦ rw (ne_eqb x j ne) (neg-nonneg x)
           ];
-          falls = ap F.nonneg (along p.cost ∙ back) ∙ down;
+          falls = ap (nonneg Q F) (along p.cost ∙ back) ∙ down;
         }
           where
-            neg-nonneg : (x : ℕ) → F.nonneg (F.neg (step x)) ≡ true
+            neg-nonneg : (x : ℕ) → nonneg Q F (F.neg (step x)) ≡ true
             neg-nonneg x = by (basic_row t x) refl
               where
-                by : (o : Option ℕ) → basic_row t x ≡ o → F.nonneg (F.neg (entry_or_zero Q F t j o)) ≡ true
-                by None e = ap F.nonneg (neg_zero Q F) ∙ nonneg_zero Q F
+                by : (o : Option ℕ) → basic_row t x ≡ o → nonneg Q F (F.neg (entry_or_zero Q F t j o)) ≡ true
+                by None e = ap (nonneg Q F) (neg_zero Q F) ∙ nonneg_zero Q F
                 by (Some i) e = under i (row-low x i e)
 
             back : minus Q F (p.cost j) (sum_to Q F n (λ x. F.mul (p.cost x) (step x))) ≡ g (m + 1) j
@@ -294,14 +294,14 @@ module _ (Q : Type 0) (F : Field Q) where
       ends-two : (e : Ending) → ((i : ℕ) → i < m → n ≤ c i → g i R ≡ F.zero_q) → ((i : ℕ) → i < m → n ≤ c i → (x : ℕ) → x < n → g i x ≡ F.zero_q) → IsTwoEnd Q F t e → Shows Q F p t e
       ends-two e dry clear (inl o) =
           let real : t.real ≡ n = k.shadow.real in
-          subst (Shows Q F p t) (sym o.0) (best dry (λ j l. ap F.nonneg (sym (ap (λ x. at Q F t (x + 1) j) k.shadow.long ∙ k.shadow.entries (m + 1) j (omega arith) (omega arith))) ∙ entering-none Q F t (length t.basis + 1) o.1 j (omega arith)))
+          subst (Shows Q F p t) (sym o.0) (best dry (λ j l. ap (nonneg Q F) (sym (ap (λ x. at Q F t (x + 1) j) k.shadow.long ∙ k.shadow.entries (m + 1) j (omega arith) (omega arith))) ∙ entering-none Q F t (length t.basis + 1) o.1 j (omega arith)))
       ends-two e dry clear (inr (j, o, f, r)) =
           let real : t.real ≡ n = k.shadow.real in
           let long : length t.basis ≡ m = k.shadow.long in
           let x = entering-is Q F t (length t.basis + 1) j f in
           let lt : j < t.real = x.0 in
           let lj : j < n = omega arith in
-          let down : F.nonneg (g (m + 1) j) ≡ false = ap F.nonneg (sym (ap (λ y. at Q F t (y + 1) j) k.shadow.long ∙ k.shadow.entries (m + 1) j (omega arith) (omega arith))) ∙ x.1 in
+          let down : nonneg Q F (g (m + 1) j) ≡ false = ap (nonneg Q F) (sym (ap (λ y. at Q F t (y + 1) j) k.shadow.long ∙ k.shadow.entries (m + 1) j (omega arith) (omega arith))) ∙ x.1 in
           let new : Has c m j → ⊥ = (λ h. below-nonzero Q F (g (m + 1) j) down (ap (g (m + 1)) (sym h.2) ∙ basic-costs Q F m n s g c (last_costs Q F p) (λ y. g (m + 1) y) w2 h.0 h.1 k.tied k.last.1)) in
           subst (Shows Q F p t) (sym o) (record {
             solution = solves dry;
@@ -311,7 +311,7 @@ module _ (Q : Type 0) (F : Field Q) where
     ends-right : (phase : Phase) (t : Table Q) (g : Rows Q F m n) (c : ℕ → ℕ) (e : Ending) → Kept Q F p phase t g c → ((j : ℕ) → entering Q F t (length t.basis) ≡ Some j → ratio_row Q F t j ≢ None) → Stop Q F t phase e → Shows Q F p t e
     ends-right phase t g c e k leaves (none_feasible neg (inl f)) =
         let real : t.real ≡ n = k.shadow.real in
-        refutes phase t g c k neg (λ j l. ap F.nonneg (sym (ap (λ x. at Q F t x j) k.shadow.long ∙ k.shadow.entries m j (omega arith) (omega arith))) ∙ entering-none Q F t (length t.basis) f j (omega arith))
+        refutes phase t g c k neg (λ j l. ap (nonneg Q F) (sym (ap (λ x. at Q F t x j) k.shadow.long ∙ k.shadow.entries m j (omega arith) (omega arith))) ∙ entering-none Q F t (length t.basis) f j (omega arith))
     ends-right phase t g c e k leaves (none_feasible neg (inr (j, f, r))) = absurd (leaves j f r)
     ends-right phase t g c e k leaves (finishes y z o) = ends-two phase t g c k e (dry-after Q F p phase t g c k y) (clear-end z) o
       where

@@ -1,7 +1,7 @@
 -- Inside one phase no set of basic columns comes back.
 use Rattle.std.proofs.Common.{◌≡◌, ◌≢◌, ℕ, zero, suc, ◌+◌, ◌<◌, ◌≤◌, ◌⊎◌, inl, inr, true, false, cond, refl, sym, ◌∙◌, ap, subst, arith, eq-eqb}
 use Rattle.std.proofs.lemmas.Bool.{ne_eqb, cases_Bool, cases_eq, cases_lt, both_ways}
-use Rattle.dc_math.specs.Field.{Field, sum_to, minus}
+use Rattle.dc_math.specs.Field.{Field, sum_to, minus, nonneg}
 use Rattle.dc_pivots.proofs.Segment.{Has, ratio, IsStep}
 use Rattle.dc_pivots.proofs.Rows.{Rows, pivot_at, basis_at}
 use Rattle.dc_pivots.proofs.Ties.{IsTied, IsPriced, pivot-row, pivot-other, basis-row, basis-other, direction_costs, bland}
@@ -54,7 +54,7 @@ module _ (Q : Type 0) (F : Field Q) (m n : ℕ) where
     pub step : (x : ℕ) → x < N → IsStep Q F m n (T x) (B x) (Z x) (R x) (J x)
     pub tied : (x : ℕ) → x ≤ N → IsTied Q F m n s (T x) (B x)
     pub priced : (x : ℕ) → x ≤ N → (w : ℕ → Q) × IsPriced Q F m n s (T x) (B x) d (Z x) w
-    pub feasible : (x i : ℕ) → x ≤ N → i < m → F.nonneg (T x i (n + m)) ≡ true
+    pub feasible : (x i : ℕ) → x ≤ N → i < m → nonneg Q F (T x i (n + m)) ≡ true
     pub table : (x i k : ℕ) → x < N → T (suc x) i k ≡ pivot_at Q F m n (T x) (R x) (J x) i k
     pub basis : (x i : ℕ) → x < N → B (suc x) i ≡ basis_at Q F m n (B x) (R x) (J x) i
     pub costs : (x : ℕ) → x < N → Z (suc x) (n + m) ≡ minus Q F (Z x (n + m)) (F.mul (Z x (J x)) (ratio Q F m n (T x) (J x) (R x)))
@@ -132,30 +132,30 @@ module _ (Q : Type 0) (F : Field Q) (m n : ℕ) where
     ]
 
     -- the quotient of the leaving row is at least 0
-    quotient-nonneg : (x : ℕ) → x < N → F.nonneg (ratio Q F m n (T x) (J x) (R x)) ≡ true
+    quotient-nonneg : (x : ℕ) → x < N → nonneg Q F (ratio Q F m n (T x) (J x) (R x)) ≡ true
     quotient-nonneg x l = F.nonneg_mul (T x (R x) (n + m)) (F.inverse (T x (R x) (J x))) (g.feasible x (R x) (omega arith) ((g.step x l).row)) (inverse-nonneg Q F (T x (R x) (J x)) ((g.step x l).positive))
 
     -- what the value of the cost row rises by
     rise : (x : ℕ) → x < N → minus Q F (Z (suc x) (n + m)) (Z x (n + m)) ≡ F.neg (F.mul (Z x (J x)) (ratio Q F m n (T x) (J x) (R x)))
     rise x l = ap (λ w. minus Q F w (Z x (n + m))) (g.costs x l) ∙ minus_less Q F (Z x (n + m)) (F.mul (Z x (J x)) (ratio Q F m n (T x) (J x) (R x)))
 
-    rises : (x : ℕ) → x < N → F.nonneg (minus Q F (Z (suc x) (n + m)) (Z x (n + m))) ≡ true
-    rises x l = ap F.nonneg (rise x l ∙ sym (neg_mul Q F (Z x (J x)) (ratio Q F m n (T x) (J x) (R x)))) ∙ F.nonneg_mul (F.neg (Z x (J x))) (ratio Q F m n (T x) (J x) (R x)) (F.nonneg_neg (Z x (J x)) ((g.step x l).negative)) (quotient-nonneg x l)
+    rises : (x : ℕ) → x < N → nonneg Q F (minus Q F (Z (suc x) (n + m)) (Z x (n + m))) ≡ true
+    rises x l = ap (nonneg Q F) (rise x l ∙ sym (neg_mul Q F (Z x (J x)) (ratio Q F m n (T x) (J x) (R x)))) ∙ F.nonneg_mul (F.neg (Z x (J x))) (ratio Q F m n (T x) (J x) (R x)) (F.nonneg_neg (Z x (J x)) ((g.step x l).negative)) (quotient-nonneg x l)
 
-    grows : (y x : ℕ) → y ≤ N → x ≤ y → F.nonneg (minus Q F (Z y (n + m)) (Z x (n + m))) ≡ true
-    grows zero x ly le = (let same : x ≡ 0 = omega arith in ap (λ k. F.nonneg (minus Q F (Z 0 (n + m)) (Z k (n + m)))) same ∙ ap F.nonneg (F.add_neg (Z 0 (n + m))) ∙ nonneg_zero Q F)
+    grows : (y x : ℕ) → y ≤ N → x ≤ y → nonneg Q F (minus Q F (Z y (n + m)) (Z x (n + m))) ≡ true
+    grows zero x ly le = (let same : x ≡ 0 = omega arith in ap (λ k. nonneg Q F (minus Q F (Z 0 (n + m)) (Z k (n + m)))) same ∙ ap (nonneg Q F) (F.add_neg (Z 0 (n + m))) ∙ nonneg_zero Q F)
     grows (suc y) x ly le = elim (cases_eq x (suc y)) [
-      | inl same ↦ ap (λ k. F.nonneg (minus Q F (Z (suc y) (n + m)) (Z k (n + m)))) same ∙ ap F.nonneg (F.add_neg (Z (suc y) (n + m))) ∙ nonneg_zero Q F
-      | inr ne ↦ ap F.nonneg (sym (minus_chain Q F (Z (suc y) (n + m)) (Z y (n + m)) (Z x (n + m)))) ∙ F.nonneg_add (minus Q F (Z (suc y) (n + m)) (Z y (n + m))) (minus Q F (Z y (n + m)) (Z x (n + m))) (rises y (omega arith)) (grows y x (omega arith) (omega arith))
+      | inl same ↦ ap (λ k. nonneg Q F (minus Q F (Z (suc y) (n + m)) (Z k (n + m)))) same ∙ ap (nonneg Q F) (F.add_neg (Z (suc y) (n + m))) ∙ nonneg_zero Q F
+      | inr ne ↦ ap (nonneg Q F) (sym (minus_chain Q F (Z (suc y) (n + m)) (Z y (n + m)) (Z x (n + m)))) ∙ F.nonneg_add (minus Q F (Z (suc y) (n + m)) (Z y (n + m))) (minus Q F (Z y (n + m)) (Z x (n + m))) (rises y (omega arith)) (grows y x (omega arith) (omega arith))
     ]
 
     module _ (still : Z 0 (n + m) ≡ Z N (n + m)) where
       flat : (x : ℕ) → x < N → minus Q F (Z (suc x) (n + m)) (Z x (n + m)) ≡ F.zero_q
       flat x l =
           let v : ℕ → Q = λ k. Z k (n + m) in
-          let back : F.nonneg (minus Q F (v x) (v (suc x))) ≡ true =
-          ap F.nonneg (sym (minus_chain Q F (v x) (v 0) (v (suc x)))) ∙ F.nonneg_add (minus Q F (v x) (v 0)) (minus Q F (v 0) (v (suc x))) (grows x 0 (omega arith) (omega arith)) (ap (λ w. F.nonneg (minus Q F w (v (suc x)))) still ∙ grows N (suc x) (omega arith) (omega arith)) in
-          F.nonneg_both (minus Q F (v (suc x)) (v x)) (rises x l) (ap F.nonneg (minus-flip Q F (v (suc x)) (v x)) ∙ back)
+          let back : nonneg Q F (minus Q F (v x) (v (suc x))) ≡ true =
+          ap (nonneg Q F) (sym (minus_chain Q F (v x) (v 0) (v (suc x)))) ∙ F.nonneg_add (minus Q F (v x) (v 0)) (minus Q F (v 0) (v (suc x))) (grows x 0 (omega arith) (omega arith)) (ap (λ w. nonneg Q F (minus Q F w (v (suc x)))) still ∙ grows N (suc x) (omega arith) (omega arith)) in
+          F.nonneg_both (minus Q F (v (suc x)) (v x)) (rises x l) (ap (nonneg Q F) (minus-flip Q F (v (suc x)) (v x)) ∙ back)
 
       ratio-none : (x : ℕ) → x < N → ratio Q F m n (T x) (J x) (R x) ≡ F.zero_q
       ratio-none x l = factor-zero Q F (Z x (J x)) (ratio Q F m n (T x) (J x) (R x)) (below-nonzero Q F (Z x (J x)) ((g.step x l).negative))
@@ -213,31 +213,31 @@ module _ (Q : Type 0) (F : Field Q) (m n : ℕ) where
         lower = (let ne : J l ≢ J e = (λ f. entering-new l ll (R l, (g.step l ll).row, out ∙ sym f)) in let low : J l ≤ J e = most l ll in omega arith)
 
         -- a row that would have left instead
-        other : (i : ℕ) → i < m → i ≢ R l → F.nonneg (F.neg (F.mul (Z e (B l i)) (T l i (J l)))) ≡ false → ⊥
+        other : (i : ℕ) → i < m → i ≢ R l → nonneg Q F (F.neg (F.mul (Z e (B l i)) (T l i (J l)))) ≡ false → ⊥
         other i li ne f =
             let p : ℕ = B l i in
-            let new : Has (B e) m p → ⊥ = λ h. both_ways (F.nonneg (F.neg (F.mul (Z e (B l i)) (T l i (J l))))) f
+            let new : Has (B e) m p → ⊥ = λ h. both_ways (nonneg Q F (F.neg (F.mul (Z e (B l i)) (T l i (J l))))) f
             (zero-product Q F (Z e p) (T l i (J l)) (ap (Z e) (sym h.2) ∙ basic-costs s (T e) (B e) d (Z e) ((g.priced e (omega arith)).0) h.0 h.1 (g.tied e (omega arith)) ((g.priced e (omega arith)).1))) in
             let c : (x : ℕ) × (x < N) × (J x ≡ p) = comes l e p (omega arith) (omega arith) (i, li, refl) new in
             let low : J c.0 ≤ J e = most c.0 c.1 in
             let is : J c.0 ≡ p = c.2 in
             let not_q : p ≢ J e = λ h. ne (different s (T l) (B l) i (R l) li ((g.step l ll).row) (g.tied l (omega arith)) (h ∙ sym out)) in
             let less : p < J e = omega arith in
-            let up : F.nonneg (F.neg (T l i (J l))) ≡ false = factor-above Q F (Z e p) (T l i (J l)) ((g.step e le).least p less) f in
+            let up : nonneg Q F (F.neg (T l i (J l))) ≡ false = factor-above Q F (Z e p) (T l i (J l)) ((g.step e le).least p less) f in
             let v : (v : ℕ) × (v < N) × (R v ≡ i) = moved-between e l i (omega arith) (omega arith) (λ h. new (i, li, h)) in
             let none : T l i (n + m) ≡ F.zero_q = zero-right still l i v.0 (omega arith) v.1 v.2 in
             let ratio_i : ratio Q F m n (T l) (J l) i ≡ F.zero_q = zero-times Q F (T l i (n + m)) (F.inverse (T l i (J l))) none in
-            let tie : F.nonneg (minus Q F (ratio Q F m n (T l) (J l) (R l)) (ratio Q F m n (T l) (J l) i)) ≡ true =
-            ap F.nonneg (minus_nothing Q F (ratio Q F m n (T l) (J l) (R l)) (ratio Q F m n (T l) (J l) i) ratio_i) ∙ quotient-nonneg l ll in
+            let tie : nonneg Q F (minus Q F (ratio Q F m n (T l) (J l) (R l)) (ratio Q F m n (T l) (J l) i)) ≡ true =
+            ap (nonneg Q F) (minus_nothing Q F (ratio Q F m n (T l) (J l) (R l)) (ratio Q F m n (T l) (J l) i) ratio_i) ∙ quotient-nonneg l ll in
             let under : B l (R l) ≤ B l i = (g.step l ll).tie i li up tie in
             let is_q : B l (R l) ≡ J e = out in
             absurd (omega arith)
 
-        signs : (i : ℕ) → i < m → F.nonneg (F.neg (F.mul (Z e (B l i)) (T l i (J l)))) ≡ true
-        signs i li = elim (cases_Bool (F.nonneg (F.neg (F.mul (Z e (B l i)) (T l i (J l)))))) [
+        signs : (i : ℕ) → i < m → nonneg Q F (F.neg (F.mul (Z e (B l i)) (T l i (J l)))) ≡ true
+        signs i li = elim (cases_Bool (nonneg Q F (F.neg (F.mul (Z e (B l i)) (T l i (J l)))))) [
           | inl is_in ↦ is_in
           | inr is_out ↦ elim (cases_eq i (R l)) [
-            | inl same ↦ ap (λ h. F.nonneg (F.neg (F.mul (Z e (B l h)) (T l h (J l))))) same ∙ ap (λ h. F.nonneg (F.neg (F.mul (Z e h) (T l (R l) (J l))))) out
+            | inl same ↦ ap (λ h. nonneg Q F (F.neg (F.mul (Z e (B l h)) (T l h (J l))))) same ∙ ap (λ h. nonneg Q F (F.neg (F.mul (Z e h) (T l (R l) (J l))))) out
                 ∙ below-times_above Q F (Z e (J e)) (T l (R l) (J l)) ((g.step e le).negative) ((g.step l ll).positive)
             | inr ne ↦ absurd (other i li ne is_out)
           ]

@@ -3,7 +3,7 @@ use Rattle.std.proofs.Common.{◌≡◌, ◌≢◌, ℕ, ◌+◌, ◌<◌, lengt
 use Rattle.std.proofs.lemmas.Bool.{false_from_ne_true}
 use Rattle.dc_math.specs.Rational.{ℚ}
 use Rattle.dc_math.specs.RationalField.{rationals}
-use Rattle.dc_math.specs.Field.{Field}
+use Rattle.dc_math.specs.Field.{Field, nonneg}
 use Rattle.dc_lp.specs.Linear.{Linear}
 use Rattle.dc_lp.specs.Tables.{Table, at, right}
 use Rattle.dc_pivots.specs.Runs.{State, Phase, Pivot, due_at, run}
@@ -33,7 +33,7 @@ module _ (Q : Type 0) (F : Field Q) (p : Linear Q) where
         real = k.shadow.real;
         rows = k.shadow.long;
         basis = λ i l. subst (λ y. y < p.columns + p.equations) (sym (k.shadow.basis i l)) (k.range i l);
-        right_sides = λ i l. ap F.nonneg (ap (at Q F a.table i) (right-is a.table k.shadow.real k.shadow.long) ∙ k.shadow.entries i (p.columns + p.equations) (omega arith) (omega arith)) ∙ k.feasible i l;
+        right_sides = λ i l. ap (nonneg Q F) (ap (at Q F a.table i) (right-is a.table k.shadow.real k.shadow.long) ∙ k.shadow.entries i (p.columns + p.equations) (omega arith) (omega arith)) ∙ k.feasible i l;
       }
 
   -- where a pivot is due

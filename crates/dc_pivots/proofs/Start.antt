@@ -1,7 +1,7 @@
 -- The first tableau, as functions.
 use Rattle.std.proofs.Common.{◌≡◌, ◌≢◌, ℕ, zero, suc, ◌+◌, ◌<◌, ◌≤◌, inl, inr, ◌==◌, true, cond, nat_lt, refl, sym, ◌∙◌, ap, arith, eq-eqb}
 use Rattle.std.proofs.lemmas.Bool.{ne_eqb, cases_Bool, cases_eq, lt-ltb, le-ltb}
-use Rattle.dc_math.specs.Field.{Field, sum_to, minus}
+use Rattle.dc_math.specs.Field.{Field, sum_to, minus, nonneg}
 use Rattle.dc_lp.specs.Linear.{Linear}
 use Rattle.dc_lp.specs.Tables.{signed, start_entry, start_value, minus_sum}
 use Rattle.dc_pivots.proofs.Ties.{IsTied, IsPriced}
@@ -88,7 +88,7 @@ module _ (Q : Type 0) (F : Field Q) (p : Linear Q) where
   unfolding first_costs
   first_costs-right = (let up : n ≤ n + m = omega arith in let same : n + m ≤ n + m = omega arith in rw (le-ltb (n + m) n up, le-ltb (n + m) (n + m) same) refl)
 
-  pub first_costs-nonneg : (k : ℕ) → F.nonneg (first_costs k) ≡ true
+  pub first_costs-nonneg : (k : ℕ) → nonneg Q F (first_costs k) ≡ true
   unfolding first_costs
   first_costs-nonneg k = elim (cases_Bool (nat_lt k n)) [
     | inl b ↦ rw b (nonneg_zero Q F)
@@ -121,8 +121,8 @@ module _ (Q : Type 0) (F : Field Q) (p : Linear Q) where
     prices = λ k. ap (F.add (last_costs k)) (sum-zero Q F m (λ i. F.mul (last_costs (n + i)) (start_value Q F p i k)) (λ i l. zero-times Q F (last_costs (n + i)) (start_value Q F p i k) (value-last i))) ∙ F.add_zero (last_costs k);
   }
 
-  pub feasible-start : (i : ℕ) → i < m → F.nonneg (start_value Q F p i (n + m)) ≡ true
-  feasible-start i l = ap F.nonneg (value-row i (n + m) l ∙ entry-right i) ∙ elim (cases_Bool (F.nonneg (p.right_side i))) [
+  pub feasible-start : (i : ℕ) → i < m → nonneg Q F (start_value Q F p i (n + m)) ≡ true
+  feasible-start i l = ap (nonneg Q F) (value-row i (n + m) l ∙ entry-right i) ∙ elim (cases_Bool (nonneg Q F (p.right_side i))) [
     | inl b ↦ rw b b
     | inr b ↦ rw b (F.nonneg_neg (p.right_side i) b)
   ]

@@ -1,7 +1,7 @@
 -- What ties each tableau of a run to the first one.
 use Rattle.std.proofs.Common.{◌≡◌, ◌≢◌, ℕ, zero, suc, ◌+◌, ◌<◌, inl, inr, ◌==◌, true, false, cond, refl, sym, ◌∙◌, ap, arith, eq-eqb}
 use Rattle.std.proofs.lemmas.Bool.{ne_eqb, cases_Bool, eqb-true, eqb-false}
-use Rattle.dc_math.specs.Field.{Field, sum_to, minus}
+use Rattle.dc_math.specs.Field.{Field, sum_to, minus, nonneg}
 use Rattle.dc_pivots.proofs.Rows.{Rows, pivot_at, basis_at}
 use Rattle.dc_math.specs.FieldSums.{mul_zero, neg_zero, neg_add, add_mul, cancel, inverse-back, minus-back, sum-same, sum-add, sum-mul, sum-swap, sum_but, sum-split, sum_but-same, combination-kept}
 
@@ -185,29 +185,26 @@ module _ (Q : Type 0) (F : Field Q) (m n : ℕ) where
       ∙ ap (λ e. F.add e back) (q.prices k)
       ∙ sym (x.combines k)
 
-  abbrev pub nonneg : Q → Type 0
-  nonneg x = F.nonneg x ≡ true
-
-  pub no_more : (k : ℕ) (f : ℕ → Q) → ((i : ℕ) → i < k → nonneg (F.neg (f i))) → nonneg (F.neg (sum_to Q F k f))
+  pub no_more : (k : ℕ) (f : ℕ → Q) → ((i : ℕ) → i < k → nonneg Q F (F.neg (f i)) ≡ true) → nonneg Q F (F.neg (sum_to Q F k f)) ≡ true
   unfolding sum_to
-  no_more zero f h = elim (cases_Bool (F.nonneg F.zero_q)) [ inl e ↦ ap F.nonneg (neg_zero Q F) ∙ e | inr e ↦ F.nonneg_neg F.zero_q e ]
-  no_more (suc k) f h = ap F.nonneg (neg_add Q F (sum_to Q F k f) (f k)) ∙ F.nonneg_add (F.neg (sum_to Q F k f)) (F.neg (f k)) (no_more k f (λ i l. h i (omega arith))) (h k (omega arith))
+  no_more zero f h = elim (cases_Bool (nonneg Q F F.zero_q)) [ inl e ↦ ap (nonneg Q F) (neg_zero Q F) ∙ e | inr e ↦ F.nonneg_neg F.zero_q e ]
+  no_more (suc k) f h = ap (nonneg Q F) (neg_add Q F (sum_to Q F k f) (f k)) ∙ F.nonneg_add (F.neg (sum_to Q F k f)) (F.neg (f k)) (no_more k f (λ i l. h i (omega arith))) (h k (omega arith))
 
   -- Where each basic column's cost at u and its entry in the entering column q have opposite signs or a zero, the costs of q can't be negative at t and not at u.
   pub bland : (s t u : Rows Q F m n) (b a : ℕ → ℕ) (d z w y v : ℕ → Q) (q : ℕ) → IsTied s t b → IsPriced s t b d z w → IsPriced s u a d y v
-      → ((i : ℕ) → i < m → nonneg (F.neg (F.mul (y (b i)) (t i q)))) → nonneg (y q) → F.nonneg (z q) ≡ false → ⊥
+      → ((i : ℕ) → i < m → nonneg Q F (F.neg (F.mul (y (b i)) (t i q))) ≡ true) → nonneg Q F (y q) ≡ true → nonneg Q F (z q) ≡ false → ⊥
   bland s t u b a d z w y v q p x o signs up down =
       let f : ℕ → Q = λ i. F.mul (y (b i)) (t i q) in
       let total : Q = sum_to Q F m f in
       let e : F.add (z q) total ≡ y q = direction_costs s t u b a d z w y v q p x o in
       -- z q = y q - total is at least 0
-      let z-nonneg : nonneg (F.add (y q) (F.neg total)) = F.nonneg_add (y q) (F.neg total) up (no_more m f signs) in
+      let z-nonneg : nonneg Q F (F.add (y q) (F.neg total)) ≡ true = F.nonneg_add (y q) (F.neg total) up (no_more m f signs) in
       let same : F.add (y q) (F.neg total) ≡ z q = ap (λ c. F.add c (F.neg total)) (sym e) ∙ F.add_assoc (z q) total (F.neg total) ∙ ap (F.add (z q)) (F.add_neg total) ∙ F.add_zero (z q) in
-      let yes : F.nonneg (z q) ≡ true = ap F.nonneg (sym same) ∙ z-nonneg in
+      let yes : nonneg Q F (z q) ≡ true = ap (nonneg Q F) (sym same) ∙ z-nonneg in
       absurd (cc)
 
   -- what the run keeps, besides: right sides are at least 0, and basic columns are different
   pub record IsFeasible (t : Rows Q F m n) (b : ℕ → ℕ) : Type 0 where
-    pub feasible : (i : ℕ) → i < m → nonneg (t i (n + m))
+    pub feasible : (i : ℕ) → i < m → nonneg Q F (t i (n + m)) ≡ true
     pub different : (i h : ℕ) → i < m → h < m → b i ≡ b h → i ≡ h
     pub in_range : (i : ℕ) → i < m → b i < n + m

@@ -1,6 +1,6 @@
 -- What is true of each run, over any ordered field.
 use Rattle.std.specs.Prelude.{◌≡◌, ◌≢◌, ℕ, zero, suc, ◌+◌, ◌<◌, ◌≤◌, ◌⊎◌, true, length, slice_index, Some, None}
-use Rattle.dc_math.specs.Field.{Field}
+use Rattle.dc_math.specs.Field.{Field, nonneg}
 use Rattle.dc_lp.specs.Linear.{Linear}
 use Rattle.dc_lp.specs.Tables.{Table, at, right, entering, ratio_row}
 use Rattle.dc_pivots.specs.Runs.{State, Phase, Pivot, End, Unbounded, due_at, run, IsOver, Spent, Basic, HaveOneBasis}
@@ -18,7 +18,7 @@ module _ (Q : Type 0) (F : Field Q) where
     pub real : t.real ≡ p.columns
     pub rows : length t.basis ≡ p.equations
     pub basis : (i : ℕ) → i < p.equations → slice_index t.basis i < p.columns + p.equations
-    pub right_sides : (i : ℕ) → i < p.equations → F.nonneg (at Q F t i (right Q F t)) ≡ true
+    pub right_sides : (i : ℕ) → i < p.equations → nonneg Q F (at Q F t i (right Q F t)) ≡ true
 
   -- each table of the run is such a table
   abbrev pub StaysFeasible : Linear Q → Type 0

@@ -4,9 +4,9 @@
 -- two lowers the cost.
 use Rattle.std.specs.Prelude.{◌≡◌, ℕ, zero, suc, ◌+◌, ◌<◌, cond, length, slice_index, Option, Some, None}
 use Rattle.std.specs.Option.{option_and_then}
-use Rattle.dc_math.specs.Field.{Field}
+use Rattle.dc_math.specs.Field.{Field, is_negative}
 use Rattle.dc_lp.specs.Linear.{Linear}
-use Rattle.dc_lp.specs.Tables.{Table, at, right, start, entering, is_negative, ratio_row, drive_place, pivoted}
+use Rattle.dc_lp.specs.Tables.{Table, at, right, start, entering, ratio_row, drive_place, pivoted}
 pub use Rattle.dc_pivots.specs.declared.Phase.{Phase}
 pub use Rattle.dc_pivots.specs.declared.Phase.TheVariants.{One, Drive, Two}
 pub use Rattle.dc_pivots.specs.declared.Ending.{Ending}

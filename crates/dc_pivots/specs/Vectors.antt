@@ -1,6 +1,6 @@
 -- The vectors that the table at the end of a run gives, over any ordered field.
 use Rattle.std.specs.Prelude.{ℕ, ◌+◌, ◌==◌, cond, length, slice_index, Option, Some, None}
-use Rattle.dc_math.specs.Field.{Field}
+use Rattle.dc_math.specs.Field.{Field, nonneg}
 use Rattle.dc_lp.specs.Linear.{Linear}
 use Rattle.dc_lp.specs.Tables.{Table, at, right, first_index}
 
@@ -27,7 +27,7 @@ module _ (Q : Type 0) (F : Field Q) where
   -- negated where the equation was
   abbrev pub multiplier_at : Linear Q → Table Q → ℕ → ℕ → Q
   multiplier_at p t row i =
-      cond (F.nonneg (p.right_side i)) (F.neg (at Q F t row (p.columns + i)))
+      cond (nonneg Q F (p.right_side i)) (F.neg (at Q F t row (p.columns + i)))
       (at Q F t row (p.columns + i))
 
   -- the cost: minus the right side of the last row

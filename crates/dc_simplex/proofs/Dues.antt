@@ -9,8 +9,7 @@ use Rattle.dc_lp.specs.declared.tableau.PastQuotient.{PastQuotient}
 use Rattle.dc_lp.specs.Folds.{checked}
 use Rattle.dc_lp.specs.Tables as tables
 use Rattle.dc_lp.specs.Tables.{Table, first_some, first_index}
-use Rattle.dc_lp.proofs.FieldTests.{zero_test}
-use Rattle.dc_lp.specs.Meanings.{at, right, is_positive, is_zero, entering, ratio_row, ratio_answer, ratios_fit, drive_place, all_below}
+use Rattle.dc_lp.specs.Meanings.{at, right, entering, ratio_row, ratio_answer, ratios_fit, drive_place, all_below}
 use Rattle.dc_pivots.specs.Runs as runs
 use Rattle.dc_pivots.specs.declared.Phase.TheVariants.{One, Drive, Two}
 use Rattle.dc_pivots.specs.declared.Ending.TheVariants.{Infeasible, Optimal, Unbounded}
@@ -59,7 +58,7 @@ some-of (Some r) h = (r, refl)
 -- The column that enters is real.
 pub entering-real : (t : Table ℚ) (i j : ℕ) → entering t i ≡ Some j → j < t.real
 unfolding tables.entering
-entering-real t i j e = (index-some (λ k. tables.is_negative ℚ rationals (at t i k)) t.real j e).0
+entering-real t i j e = (index-some (λ k. tests.is_negative (at t i k)) t.real j e).0
 
 -- Where a quotient doesn't fit, a row leaves.
 
@@ -67,10 +66,10 @@ better-some : (t : Table ℚ) (j i : ℕ) (o : Option ℕ) → IsSome (tables.be
 better-some t j i None = refl
 better-some t j i (Some k) = elim (tables.goes_before ℚ rationals t j i k) as (λ b. IsSome (cond b (Some i) (Some k))) [ true ↦ refl | false ↦ refl ]
 
-best-some : (t : Table ℚ) (j n : ℕ) → all_below n (λ i. not (is_positive (at t i j)) || quotient_fits (at t i (right t)) (at t i j)) ≡ false → IsSome (tables.best_below ℚ rationals t j n)
+best-some : (t : Table ℚ) (j n : ℕ) → all_below n (λ i. not (tests.is_positive (at t i j)) || quotient_fits (at t i (right t)) (at t i j)) ≡ false → IsSome (tables.best_below ℚ rationals t j n)
 best-some t j zero e = absurd (cc)
 best-some t j (suc n) e =
-    elim (cases_Bool (is_positive (at t n j))) [
+    elim (cases_Bool (tests.is_positive (at t n j))) [
       | inl p ↦ rw p (better-some t j n (tables.best_below ℚ rationals t j n))
       | inr p ↦ rw p (best-some t j n (all_below-false_first n _ e (rw p refl)))
     ]
@@ -130,7 +129,7 @@ drive-none t n e same = rw (← same) e
 
 -- the first real entry of row i below column n
 unfoldable pub entry_below : Table ℚ → ℕ → ℕ → Option ℕ
-entry_below t i n = first_index (λ k. not (is_zero (at t i k))) n
+entry_below t i n = first_index (λ k. not (tests.is_zero (at t i k))) n
 
 pub entry_below-start : (t : Table ℚ) (i : ℕ) → entry_below t i 0 ≡ None
 unfolding entry_below
@@ -138,11 +137,11 @@ entry_below-start t i = refl
 
 pub entry_below-more : (t : Table ℚ) (i n : ℕ) → entry_below t i n ≡ None → tests.is_zero (at t i n) ≡ true → entry_below t i (n + 1) ≡ None
 unfolding entry_below
-entry_below-more t i n e h = first_some-none (λ k. checked (not (is_zero (at t i k))) k) n e (rw (zero_test (at t i n) ∙ h) refl)
+entry_below-more t i n e h = first_some-none (λ k. checked (not (tests.is_zero (at t i k))) k) n e (rw (h) refl)
 
 pub real_entry-found : (t : Table ℚ) (i j : ℕ) → entry_below t i j ≡ None → tests.is_zero (at t i j) ≡ false → j < t.real → real_entry t i ≡ Some j
 unfolding tables.real_entry entry_below
-real_entry-found t i j e h lt = first_some-found (λ k. checked (not (is_zero (at t i k))) k) j t.real j e (rw (zero_test (at t i j) ∙ h) refl) lt
+real_entry-found t i j e h lt = first_some-found (λ k. checked (not (tests.is_zero (at t i k))) k) j t.real j e (rw (h) refl) lt
 
 pub real_entry-none : (t : Table ℚ) (i n : ℕ) → entry_below t i n ≡ None → n ≡ t.real → real_entry t i ≡ None
 unfolding tables.real_entry entry_below

@@ -7,8 +7,7 @@ use Rattle.dc_math.specs.Rational.{ℚ, of_ℤ}
 use Rattle.dc_lp.specs.declared.Problem.{Problem}
 use Rattle.dc_lp.specs.Tables as tables
 use Rattle.dc_lp.specs.Tables.{made}
-use Rattle.dc_lp.specs.Meanings.{Meaning, resting, start, at, is_zero}
-use Rattle.dc_lp.proofs.FieldTests.{zero_test}
+use Rattle.dc_lp.specs.Meanings.{Meaning, resting, start, at}
 use Rattle.dc_start.proofs.Loads.{made-length}
 use Rattle.dc_sparse.specs.declared.web.Node.{Node}
 use Rattle.dc_sparse.specs.Entries.{entry_at, StandsAt}
@@ -85,9 +84,9 @@ module _ (p : Problem) where
   pub part-entries : (xs : List Node) → IsPartOf p xs (p.rows + 2) → held_count xs (p.rows + 2) (width p) ≤ entry_count (start p)
   unfolding held_count entry_count
   part-entries xs f =
-      let some : ℕ → ℕ → Bool = λ i k. not (is_zero (at (start p) i k)) in
+      let some : ℕ → ℕ → Bool = λ i k. not (tests.is_zero (at (start p) i k)) in
       let l : count_places (p.rows + 2) (width p) (λ i k. not (tests.is_zero (entry_at xs i k))) ≤ count_places (p.rows + 2) (width p) some =
       count_places-least (λ i k. not (tests.is_zero (entry_at xs i k))) some (p.rows + 2) (width p)
-      (λ i k li lk e. ap not (zero_test (at (start p) i k) ∙ ap tests.is_zero (start-at i k li lk) ∙ f.each i k li lk (not_true (tests.is_zero (entry_at xs i k)) e))) in
+      (λ i k li lk e. ap not (ap tests.is_zero (start-at i k li lk) ∙ f.each i k li lk (not_true (tests.is_zero (entry_at xs i k)) e))) in
       subst (λ n. count_places (p.rows + 2) (width p) (λ i k. not (tests.is_zero (entry_at xs i k))) ≤ count_places n ((start p).real + length (start p).basis + 1) some) (sym start-tall)
       (subst (λ n. count_places (p.rows + 2) (width p) (λ i k. not (tests.is_zero (entry_at xs i k))) ≤ count_places (p.rows + 2) n some) (sym start-wide) l)

@@ -9,8 +9,7 @@ use Rattle.dc_frac.specs.Fits.{quotient_fits, product_fits, difference_fits}
 use Rattle.dc_lp.specs.Tables as tables
 use Rattle.dc_lp.specs.Tables.{Table, made}
 use Rattle.dc_lp.proofs.Belows.{all_below-same}
-use Rattle.dc_lp.proofs.FieldTests.{zero_test, negative_test}
-use Rattle.dc_lp.specs.Meanings.{Meaning, resting, at, is_zero, entering, all_below, pivoted, pivot_fits, division_fits, reduction_fits, divided}
+use Rattle.dc_lp.specs.Meanings.{Meaning, resting, at, entering, all_below, pivoted, pivot_fits, division_fits, reduction_fits, divided}
 use Rattle.dc_sparse.specs.declared.web.Node.{Node}
 use Rattle.dc_sparse.specs.Entries.{entry_at}
 use Rattle.dc_start.specs.Changes.{step_fits}
@@ -45,17 +44,17 @@ module _ (real h w : ℕ) (basis : List ℕ) (e : ℕ → ℕ → ℚ) (tall : h
   pub entries-grid : (xs : List Node) → ((i k : ℕ) → tests.is_zero (e i k) ≡ tests.is_zero (entry_at xs i k)) → entry_count table ≡ held_count xs h w
   unfolding entry_count held_count
   entries-grid xs same =
-      ap (λ x. count_places x (real + length basis + 1) (λ i k. not (is_zero (at table i k)))) (sym tall)
-      ∙ ap (λ x. count_places h x (λ i k. not (is_zero (at table i k)))) (sym wide)
-      ∙ count_places-same (λ i k. not (is_zero (at table i k))) (λ i k. not (tests.is_zero (entry_at xs i k))) h w
-      (λ i k li lk. ap not (zero_test (at table i k) ∙ ap tests.is_zero (table-at i k li lk) ∙ same i k))
+      ap (λ x. count_places x (real + length basis + 1) (λ i k. not (tests.is_zero (at table i k)))) (sym tall)
+      ∙ ap (λ x. count_places h x (λ i k. not (tests.is_zero (at table i k)))) (sym wide)
+      ∙ count_places-same (λ i k. not (tests.is_zero (at table i k))) (λ i k. not (tests.is_zero (entry_at xs i k))) h w
+      (λ i k li lk. ap not (ap tests.is_zero (table-at i k li lk) ∙ same i k))
 
   module _ (r j : ℕ) (lr : r < h) (lj : j < w) where
     divided-at : (k : ℕ) → k < w → divided table r j k ≡ e r k /ℚ e r j
     divided-at k lk = ap₂ ◌/ℚ◌ (table-at r k lr lk) (table-at r j lr lj)
 
-    pub zero-at : (i k : ℕ) → i < h → k < w → is_zero (at table i k) ≡ tests.is_zero (e i k)
-    zero-at i k li lk = zero_test (at table i k) ∙ ap tests.is_zero (table-at i k li lk)
+    pub zero-at : (i k : ℕ) → i < h → k < w → tests.is_zero (at table i k) ≡ tests.is_zero (e i k)
+    zero-at i k li lk = ap tests.is_zero (table-at i k li lk)
 
     pub pivoted_at-at : (i k : ℕ) → i < h → k < w → pivoted_at e r j i k ≡ tables.pivoted_entry ℚ rationals table r j i k
     pivoted_at-at i k li lk = sym (
@@ -83,11 +82,10 @@ module _ (real h w : ℕ) (basis : List ℕ) (e : ℕ → ℕ → ℚ) (tall : h
     abbrev place_fits : ℚ → ℚ → ℚ → ℕ → Bool
     place_fits factor x y k = k == j || step_fits factor x y
 
-    step-grid : (i k : ℕ) → i < h → k < w → (k == j || is_zero (divided table r j k) || product_fits (at table i j) (divided table r j k) && difference_fits (at table i k) (at table i j *ℚ divided table r j k))
+    step-grid : (i k : ℕ) → i < h → k < w → (k == j || tests.is_zero (divided table r j k) || product_fits (at table i j) (divided table r j k) && difference_fits (at table i k) (at table i j *ℚ divided table r j k))
         ≡ place_fits (e i j) (e r k /ℚ e r j) (e i k) k
     step-grid i k li lk =
-        sym (or_assoc (k == j) (is_zero (divided table r j k)) (product_fits (at table i j) (divided table r j k) && difference_fits (at table i k) (at table i j *ℚ divided table r j k)))
-        ∙ ap (λ b. k == j || (b || product_fits (at table i j) (divided table r j k) && difference_fits (at table i k) (at table i j *ℚ divided table r j k))) (zero_test (divided table r j k))
+        sym (or_assoc (k == j) (tests.is_zero (divided table r j k)) (product_fits (at table i j) (divided table r j k) && difference_fits (at table i k) (at table i j *ℚ divided table r j k)))
         ∙ ap (λ x. place_fits (at table i j) x (at table i k) k) (divided-at k lk)
         ∙ ap (λ x. place_fits x (e r k /ℚ e r j) (at table i k) k) (table-at i j li lj)
         ∙ ap (λ x. place_fits (e i j) (e r k /ℚ e r j) x k) (table-at i k li lk)
@@ -95,9 +93,9 @@ module _ (real h w : ℕ) (basis : List ℕ) (e : ℕ → ℕ → ℚ) (tall : h
     row-grid : (i : ℕ) → i < h → (i == r || reduction_fits table r j i) ≡ (i == r || tests.is_zero (e i j) || all_below w (λ k. k == j || step_fits (e i j) (e r k /ℚ e r j) (e i k)))
     unfolding reduction_fits
     row-grid i li =
-        or_assoc (i == r) (is_zero (at table i j)) _
-        ∙ ap (λ b. i == r || b || all_below (real + length basis + 1) (λ k. k == j || is_zero (divided table r j k) || product_fits (at table i j) (divided table r j k) && difference_fits (at table i k) (at table i j *ℚ divided table r j k))) (zero-at i j li lj)
-        ∙ ap (λ x. i == r || tests.is_zero (e i j) || all_below x (λ k. k == j || is_zero (divided table r j k) || product_fits (at table i j) (divided table r j k) && difference_fits (at table i k) (at table i j *ℚ divided table r j k))) (sym wide)
+        or_assoc (i == r) (tests.is_zero (at table i j)) _
+        ∙ ap (λ b. i == r || b || all_below (real + length basis + 1) (λ k. k == j || tests.is_zero (divided table r j k) || product_fits (at table i j) (divided table r j k) && difference_fits (at table i k) (at table i j *ℚ divided table r j k))) (zero-at i j li lj)
+        ∙ ap (λ x. i == r || tests.is_zero (e i j) || all_below x (λ k. k == j || tests.is_zero (divided table r j k) || product_fits (at table i j) (divided table r j k) && difference_fits (at table i k) (at table i j *ℚ divided table r j k))) (sym wide)
         ∙ ap (λ b. i == r || tests.is_zero (e i j) || b) (all_below-same w _ _ (λ k lk. step-grid i k li lk))
 
     pub pivot_fits-grid : pivot_fits table r j ≡ entries_fit e w h r j
@@ -139,10 +137,10 @@ module _ (real h w : ℕ) (basis : List ℕ) (e : ℕ → ℕ → ℚ) (tall : h
   abbrev whole : Table ℚ
   whole = record { real = real; rows = grid h w e; basis = basis }
 
-  negative_at : (k : ℕ) → k < real → tables.is_negative ℚ rationals (at whole i k) ≡ tests.is_negative (entry_at xs i k)
-  negative_at k lt = negative_test (at whole i k) ∙ ap tests.is_negative (table-at real h w basis e tall wide i k inside (omega arith)) ∙ same k
+  negative_at : (k : ℕ) → k < real → tests.is_negative (at whole i k) ≡ tests.is_negative (entry_at xs i k)
+  negative_at k lt = ap tests.is_negative (table-at real h w basis e tall wide i k inside (omega arith)) ∙ same k
 
   pub entering-is : (o : Option ℕ) → IsFirstNegative xs i real o → o ≡ entering whole i
   unfolding tables.entering
-  entering-is None f = sym (none-index (λ k. tables.is_negative ℚ rationals (at whole i k)) real (λ k l. negative_at k l ∙ f k l))
-  entering-is (Some k) f = sym (some-index (λ k. tables.is_negative ℚ rationals (at whole i k)) real k f.0 (negative_at k f.0 ∙ f.1) (λ j l. negative_at j (let u = f.0 in omega arith) ∙ f.2 j l))
+  entering-is None f = sym (none-index (λ k. tests.is_negative (at whole i k)) real (λ k l. negative_at k l ∙ f k l))
+  entering-is (Some k) f = sym (some-index (λ k. tests.is_negative (at whole i k)) real k f.0 (negative_at k f.0 ∙ f.1) (λ j l. negative_at j (let u = f.0 in omega arith) ∙ f.2 j l))

@@ -1,5 +1,5 @@
 -- Where a number is 0, a pivot has nothing to compute.
-use Rattle.std.proofs.Common.{◌≡◌, Bool, true, ◌&&◌, ◌||◌, [], ◌∷◌, IsTrue, pos, refl, sym, ◌∙◌, ap}
+use Rattle.std.proofs.Common.{◌≡◌, true, ◌||◌, [], ◌∷◌, IsTrue, pos, refl, sym, ◌∙◌, ap}
 use Rattle.std.proofs.lemmas.Bool.{and_from}
 use Rattle.dc_math.specs.Rational.{ℚ, of_ℤ, ◌-ℚ◌, ◌*ℚ◌, ◌+ℚ◌, neg_ℚ, zero-*ℚ, zero-+ℚ}
 use Rattle.dc_math.specs.RationalRing.{ring, reads, read_nat, same_form, linear₁}

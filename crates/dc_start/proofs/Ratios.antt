@@ -1,5 +1,5 @@
 -- The row that leaves.
-use Rattle.std.proofs.Common.{◌≡◌, ℕ, zero, suc, ◌+◌, ◌<◌, Bool, true, false, cond, not, ◌&&◌, ◌||◌, length, slice_index, slice_index_or, List, [], ◌∷◌, nat_lt, Option, Some, None, Ok, Err, refl, sym, ◌∙◌, ap, ap₂, arith, add-one}
+use Rattle.std.proofs.Common.{◌≡◌, ℕ, ◌+◌, ◌<◌, Bool, true, false, cond, not, ◌&&◌, ◌||◌, length, slice_index, nat_lt, Option, Some, None, Ok, Err, refl, sym, ◌∙◌, ap, ap₂, add-one}
 use Rattle.dc_math.specs.Rational.{ℚ, ◌<ℚ◌, <ℚ-≤ℚ, ≤ℚ_refl, le_ℚ, of_ℤ}
 use Rattle.std.specs.Prelude.{pos}
 use Rattle.dc_math.specs.RationalField.{rationals}
@@ -8,12 +8,11 @@ use Rattle.dc_math.specs.Tests as tests
 use Rattle.dc_math.specs.Tests.{lt_ℚ, lt_ℚ-true, lt_ℚ-false}
 use Rattle.dc_frac.specs.Fits.{quotient_fits}
 use Rattle.dc_frac.specs.Value.{value}
-use Rattle.dc_lp.proofs.FieldTests.{below_test, positive_test}
 use Rattle.dc_lp.specs.Tables as tables
 use Rattle.dc_lp.specs.Tables.{Table}
-use Rattle.dc_lp.specs.Meanings.{at, right, is_positive, ratio_answer, ratio_row, ratios_fit}
+use Rattle.dc_lp.specs.Meanings.{at, right, ratio_answer, ratio_row, ratios_fit}
 use Rattle.dc_start.specs.declared.ratio.Candidate.{Candidate}
-use Rattle.dc_start.specs.Ratios.{IsCandidate, AreCandidates, AreWithin, IsBetter, row_of, goes_before, better, tested_fit, IsBestOf}
+use Rattle.dc_start.specs.Ratios.{IsCandidate, AreCandidates, AreWithin, row_of, goes_before, better, tested_fit, IsBestOf}
 use Rattle.dc_lp.proofs.Belows.{all_below-fails}
 
 -- a positive number isn't 0
@@ -33,9 +32,7 @@ module _ (t : Table ℚ) (j : ℕ) (c d : Candidate) (h : IsCandidate t j c) (k 
   by_values : goes_before t j c.row d.row ≡ judged (value c.ratio) (value d.ratio)
   unfolding tables.goes_before
   by_values =
-      ap (λ b. b || not (tables.is_below ℚ rationals (tables.ratio_of ℚ rationals t j d.row) (tables.ratio_of ℚ rationals t j c.row)) && nat_lt (slice_index t.basis c.row) (slice_index t.basis d.row)) (below_test _ _)
-      ∙ ap (λ b. lt_ℚ (tables.ratio_of ℚ rationals t j c.row) (tables.ratio_of ℚ rationals t j d.row) || not b && nat_lt (slice_index t.basis c.row) (slice_index t.basis d.row)) (below_test _ _)
-      ∙ ap (λ x. judged x (tables.ratio_of ℚ rationals t j d.row)) (sym h.ratio)
+      ap (λ x. judged x (tables.ratio_of ℚ rationals t j d.row)) (sym h.ratio)
       ∙ ap (λ y. judged (value c.ratio) y) (sym k.ratio)
 
   pub before-less : value c.ratio <ℚ value d.ratio → true ≡ goes_before t j c.row d.row
@@ -68,28 +65,25 @@ module _ (t : Table ℚ) (j n : ℕ) (best : Option Candidate) (h : IsBestOf t j
   pub best-skip : tests.is_positive (at t n j) ≡ false → IsBestOf t j (n + 1) best
   unfolding tested_fit
   best-skip e =
-      let f : is_positive (at t n j) ≡ false = positive_test (at t n j) ∙ e in
       record {
-        fit = rw (add-one, h.fit, f) refl;
-        row = rw (add-one, f) h.row;
+        fit = rw (add-one, h.fit, e) refl;
+        row = rw (add-one, e) h.row;
         candidates = h.candidates;
       }
 
   pub best-more : (c : Candidate) → tests.is_positive (at t n j) ≡ true → quotient_fits (at t n (right t)) (at t n j) ≡ true → IsCandidate t j c → Some c.row ≡ better t j n (row_of best) → IsBestOf t j (n + 1) (Some c)
   unfolding tested_fit
   best-more c e q k b =
-      let f : is_positive (at t n j) ≡ true = positive_test (at t n j) ∙ e in
       record {
-        fit = rw (add-one, h.fit, f) q;
-        row = rw (add-one, f) (b ∙ ap (better t j n) h.row);
+        fit = rw (add-one, h.fit, e) q;
+        row = rw (add-one, e) (b ∙ ap (better t j n) h.row);
         candidates = k;
       }
 
   pub best-past : tests.is_positive (at t n j) ≡ true → quotient_fits (at t n (right t)) (at t n j) ≡ false → n < length t.basis → Err (record {}) ≡ ratio_answer t j
   unfolding ratios_fit
   best-past e q lt =
-      let f : is_positive (at t n j) ≡ true = positive_test (at t n j) ∙ e in
-      let no : ratios_fit t j ≡ false = all_below-fails (λ i. not (is_positive (at t i j)) || quotient_fits (at t i (right t)) (at t i j)) n (length t.basis) (rw f q) lt in
+      let no : ratios_fit t j ≡ false = all_below-fails (λ i. not (tests.is_positive (at t i j)) || quotient_fits (at t i (right t)) (at t i j)) n (length t.basis) (rw e q) lt in
       sym (ap (λ b. cond b (Ok (ratio_row t j)) (Err (record {}))) no)
 
   pub best-all : n ≡ length t.basis → Ok (row_of best) ≡ ratio_answer t j

@@ -1,13 +1,14 @@
 -- The search for the row that leaves, as far as it has come.
 use Rattle.std.specs.Prelude.{◌≡◌, ℕ, ◌<◌, Bool, true, not, ◌||◌, length, Option, Some, None}
 use Rattle.std.specs.Option.{option_map}
+use Rattle.dc_math.specs.Tests.{is_positive}
 use Rattle.dc_math.specs.Rational.{ℚ}
 use Rattle.dc_math.specs.RationalField.{rationals}
 use Rattle.dc_frac.specs.Fits.{quotient_fits}
 use Rattle.dc_frac.specs.Value.{value}
 use Rattle.dc_lp.specs.Tables as tables
 use Rattle.dc_lp.specs.Tables.{Table}
-use Rattle.dc_lp.specs.Meanings.{at, right, is_positive, all_below}
+use Rattle.dc_lp.specs.Meanings.{at, right, all_below}
 use Rattle.dc_start.specs.declared.ratio.Candidate.{Candidate}
 
 -- a row of an equation, with its quotient for column j

@@ -4,7 +4,6 @@ use Rattle.dc_lp.specs.declared.Problem.{Problem}
 use Rattle.dc_lp.specs.Problems.{linear_of}
 use Rattle.dc_math.specs.Tests as tests
 use Rattle.dc_lp.specs.Meanings.{Meaning, IsPlace, IsPivotPlace, at, width, resting, ready_at, start, pivoted}
-use Rattle.dc_lp.proofs.FieldTests.{zero_test}
 use Rattle.dc_simplex.proofs.Steps.{start-basis, start-real, pivoted-basis, pivoted-real}
 use Rattle.dc_tableau_trials.specs.Sizes.{IsOver, IsReadyAt}
 
@@ -18,7 +17,7 @@ over_start x p n e h = rw e (record {
 pub over_ready : (x y : Meaning) (m n r j : ℕ) → IsOver x m n → r < m → j < n → tests.is_zero (at x.table r j) ≡ false → y ≡ ready_at x.table r j → IsReadyAt y m n r j
 over_ready x y m n r j h a b z e = (let w = h.rows in let c = h.columns in rw e (record {
   over = record { usable = record { loaded = refl; whole = refl }; rows = w; columns = c };
-  place = record { row = omega arith; column = omega arith; nonzero = zero_test (at x.table r j) ∙ z };
+  place = record { row = omega arith; column = omega arith; nonzero = z };
   ready = refl;
 }))
 
@@ -36,6 +35,6 @@ pub column_over : (x : Meaning) (m n k : ℕ) → IsOver x m n → k < n → k <
 column_over x m n k h a = (let r = h.rows in let c = h.columns in omega arith)
 
 pub pivot_place : (x : Meaning) (m n r j : ℕ) → IsOver x m n → r < m → j < n → tests.is_zero (at x.table r j) ≡ false → IsPivotPlace x.table r j
-pivot_place x m n r j h a b z = (let w = h.rows in let c = h.columns in record { row = omega arith; column = omega arith; nonzero = zero_test (at x.table r j) ∙ z })
+pivot_place x m n r j h a b z = (let w = h.rows in let c = h.columns in record { row = omega arith; column = omega arith; nonzero = z })
 
 pub ruleset sizes = (over_start, place_over, column_over)
