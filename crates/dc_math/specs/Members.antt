@@ -124,6 +124,9 @@ pub among_map : {A B : Type 0} (f : A → B) {x : A} {xs : List A} → Among x x
 among_map f head = head
 among_map f (tail i) = tail (among_map f i)
 
+pub among_image : {A B : Type 0} (f : A → B) {x : A} {y : B} {xs : List A} → y ≡ f x → Among x xs → Among y (map f xs)
+among_image f {xs = xs} e i = subst (λ z. Among z (map f xs)) (sym e) (among_map f i)
+
 -- an item of a mapped list is that of an item
 pub record Mapped {A B : Type 0} (f : A → B) (y : B) (xs : List A) : Type 0 where
   pub of : A
