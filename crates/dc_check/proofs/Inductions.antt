@@ -3,10 +3,10 @@ use Rattle.std.specs.Prelude.{◌≡◌, ℕ, zero, suc, ◌<◌, ◌≤◌, Boo
 use Rattle.std.specs.List.{AllByRecursion, list_all}
 use Rattle.std.proofs.Common.{refl, sym, ◌∙◌, ap, ap₂, subst, arith, get_or}
 use Rattle.std.proofs.lemmas.Bool.{and_parts, and_from, eqb-true, leb-true, leb-false}
+use Rattle.dc_math.specs.Members.{Among, head, tail, among_at}
 use Rattle.dc_syntax.specs.Value.{State}
 use Rattle.dc_affine.specs.declared.atom.Atom.{Atom}
 use Rattle.dc_affine.specs.Atoms.{IsAtom, AllAtoms, Allowed, holds_at, all_hold}
-use Rattle.dc_graph.specs.Members.{Among, head, tail}
 use Rattle.dc_system.specs.declared.edges.Edge.{Edge}
 use Rattle.dc_system.specs.declared.edges.System.{System}
 use Rattle.dc_system.specs.Shapes.{IsWellFormed}
@@ -24,7 +24,7 @@ use Rattle.dc_families.specs.Graphs.{graph_of}
 use Rattle.dc_families.specs.Families.{family_of}
 use Rattle.dc_families.specs.Moves.{at_start}
 use Rattle.dc_families.specs.Rounds.{MeetsFamily, CasesGive, EdgeGives, IsInductive, IsOver}
-use Rattle.dc_families.proofs.Lists.{among_at, all_atoms, each_atom, all_both}
+use Rattle.dc_families.proofs.Lists.{all_atoms, each_atom, all_both}
 use Rattle.dc_families.proofs.Tests.{has_among, among_has}
 use Rattle.dc_families.proofs.Reached.{reached_meet}
 use Rattle.dc_families.proofs.Folds.{systems_are_graphs}

@@ -5,6 +5,7 @@ use Rattle.std.proofs.lemmas.List.Elements.{recursion_from_All}
 use Rattle.std.proofs.Common.{refl, sym, ◌∙◌, ap, ap₂, subst, arith, length-append}
 use Rattle.std.proofs.lemmas.List.{length-replicate}
 use Rattle.std.proofs.lemmas.Int.{ints}
+use Rattle.dc_math.specs.Members.{Among, head, tail}
 use Rattle.dc_math.specs.Integers.{0≤ℤ-*ℤ}
 use Rattle.dc_math.specs.WholeVectors.{dot_ℤ}
 use Rattle.dc_math.specs.Rational.{ℚ, ◌+ℚ◌, ◌-ℚ◌, of_ℤ, of_ℤ-+ℤ, ◌≤ℚ◌, sub-≤ℚ, NonNegative, NonNegative-+ℚ, NonNegative-*ℚ}
@@ -13,7 +14,6 @@ use Rattle.dc_math.specs.Linear.{from₁, from₂, from₃, times, follows}
 use Rattle.dc_math.specs.Order.{of_ℤ-neg_ℤ}
 use Rattle.dc_math.specs.Signs.{of_ℤ-≤, zero_non_negative}
 use Rattle.dc_math.specs.Vectors.{dot}
-use Rattle.dc_math.specs.Cones.{Each}
 use Rattle.dc_lp.specs.Tables.{made}
 use Rattle.dc_syntax.specs.declared.tree.Side.{Side}
 use Rattle.dc_syntax.specs.declared.tree.Side.TheVariants.{New, Old}
@@ -21,7 +21,6 @@ use Rattle.dc_syntax.specs.Value.{State}
 use Rattle.dc_poly.specs.Terms.{Exponents, mono_value, power}
 use Rattle.dc_affine.specs.declared.atom.Atom.{Atom}
 use Rattle.dc_affine.specs.Atoms.{atom_value, holds_at, all_hold, some_hold, AllAtoms, IsAtom}
-use Rattle.dc_graph.specs.Members.{Among, head, tail}
 use Rattle.dc_system.specs.declared.edges.Edge.{Edge}
 use Rattle.dc_system.specs.Paths.{at, Step, Path, here, along}
 use Rattle.dc_handelman.specs.Choices.{Choice, choices_of}
@@ -59,16 +58,16 @@ choice_positive : (hyps : List Atom) (x : List ℤ) (c : Choice) → all_hold hy
 choice_positive hyps x [] h = omega (arith, ints)
 choice_positive hyps x (i ∷ c) h = 0≤ℤ-*ℤ _ _ (factor_positive hyps x i h) (choice_positive hyps x c h)
 
-values_positive : (hyps : List Atom) (x : List ℤ) (cs : List Choice) → all_hold hyps x ≡ true → Each NonNegative (map (λ c. of_ℤ (choice_value hyps c x)) cs)
+values_positive : (hyps : List Atom) (x : List ℤ) (cs : List Choice) → all_hold hyps x ≡ true → AllByRecursion NonNegative (map (λ c. of_ℤ (choice_value hyps c x)) cs)
 values_positive hyps x [] h = tt
 values_positive hyps x (c ∷ cs) h = (of_ℤ-≤ (pos 0) _ (choice_positive hyps x c h), values_positive hyps x cs h)
 
-dot_positive : (xs ys : List ℚ) → Each NonNegative xs → Each NonNegative ys → NonNegative (dot xs ys)
+dot_positive : (xs ys : List ℚ) → AllByRecursion NonNegative xs → AllByRecursion NonNegative ys → NonNegative (dot xs ys)
 dot_positive [] ys h k = zero_non_negative
 dot_positive (x ∷ xs) [] h k = zero_non_negative
 dot_positive (x ∷ xs) (y ∷ ys) h k = NonNegative-+ℚ _ _ (NonNegative-*ℚ _ _ h.0 k.0) (dot_positive xs ys h.1 k.1)
 
-each_made : (f : ℕ → ℚ) (a n : ℕ) → ((i : ℕ) → i < a + n → NonNegative (f i)) → Each NonNegative (map f (range_with_len a n))
+each_made : (f : ℕ → ℚ) (a n : ℕ) → ((i : ℕ) → i < a + n → NonNegative (f i)) → AllByRecursion NonNegative (map f (range_with_len a n))
 each_made f a zero h = tt
 each_made f a (suc n) h = (h a (omega arith), each_made f (a + 1) n (λ i l. h i (omega arith)))
 
@@ -78,7 +77,7 @@ mono_more [] x y l = refl
 mono_more (e ∷ m) [] y l = absurd (omega arith)
 mono_more (e ∷ m) (a ∷ x) y l = ap (λ v. power a e *ℤ v) (mono_more m x y (omega arith))
 
-monos_more : (ms : List Exponents) (x y : List ℤ) → Each (λ m. length m ≤ length x) ms → mono_values ms (x ++ y) ≡ mono_values ms x
+monos_more : (ms : List Exponents) (x y : List ℤ) → AllByRecursion (λ m. length m ≤ length x) ms → mono_values ms (x ++ y) ≡ mono_values ms x
 monos_more [] x y h = refl
 monos_more (m ∷ ms) x y h = ap₂ (λ v vs. of_ℤ v ∷ vs) (mono_more m x y h.0) (monos_more ms x y h.1)
 
@@ -145,10 +144,10 @@ module _ (p : Pair) (d k : ℕ) (t : ℚ) (φ χ : Potential) (multipliers : Mul
 
   -- ---- along the paths of both programs
   module _ (pair : IsPair p) where
-    padded : (side : Side) → Each (λ m. length m ≤ (system_of p side).vars) (monomials_at p d side)
+    padded : (side : Side) → AllByRecursion (λ m. length m ≤ (system_of p side).vars) (monomials_at p d side)
     padded side = each_within (system_of p side).vars (monomials_at p d side) (recursion_from_All _ _ (are_monomials (system_of p side).vars d).only)
       where
-        each_within : (n : ℕ) (ms : List Exponents) → AllByRecursion (IsWithin n d) ms → Each (λ m. length m ≤ n) ms
+        each_within : (n : ℕ) (ms : List Exponents) → AllByRecursion (IsWithin n d) ms → AllByRecursion (λ m. length m ≤ n) ms
         each_within n [] h = tt
         each_within n (m ∷ ms) h = ((let e = h.0.places in omega arith), each_within n ms h.1)
 
@@ -168,7 +167,7 @@ module _ (p : Pair) (d k : ℕ) (t : ℚ) (φ χ : Potential) (multipliers : Mul
 
     same_value : (side : Side) (f : Potential) (l : ℕ) (x : State) (z : ℤ) → length x ≡ (system_of p side).vars → potential_value p d side f l (at x z) ≡ potential_value p d side f l x
     same_value side f l x z h =
-        ap (λ v. dot (made (length (monomials_at p d side)) (f l)) v) (monos_more (monomials_at p d side) x (z ∷ []) (subst (λ i. Each (λ m. length m ≤ i) (monomials_at p d side)) (sym h) (padded side)))
+        ap (λ v. dot (made (length (monomials_at p d side)) (f l)) v) (monos_more (monomials_at p d side) x (z ∷ []) (subst (λ i. AllByRecursion (λ m. length m ≤ i) (monomials_at p d side)) (sym h) (padded side)))
 
     -- at a state that meets an edge's source, and passes its guard
     along_positive : (side : Side) (n : ℕ) (x y : State) (z c : ℤ) → n < length (system_of p side).edges → Step (edge_at (system_of p side) n) x z c y → length x ≡ (system_of p side).vars

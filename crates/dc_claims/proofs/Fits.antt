@@ -4,8 +4,8 @@ use Rattle.std.specs.List.{AllByRecursion, range_with_len, list_all}
 use Rattle.std.proofs.Common.{◌∙◌, ap, subst, arith, length-append}
 use Rattle.std.proofs.lemmas.List.{length-take-le, length-map}
 use Rattle.std.proofs.lemmas.List.Elements.{All-from_recursion}
+use Rattle.dc_math.specs.Members.{each_all, each-++, each-map, each-flat_map, each-range}
 use Rattle.dc_math.specs.Rational.{ℚ, neg_ℚ}
-use Rattle.dc_math.specs.Cones.{Each}
 use Rattle.dc_syntax.specs.declared.tree.Side.{Side}
 use Rattle.dc_syntax.specs.declared.tree.Side.TheVariants.{New, Old}
 use Rattle.dc_poly.specs.Terms.{Exponents, TermList, Places, term, Polynomial, polynomial}
@@ -28,7 +28,6 @@ use Rattle.dc_claims.specs.Claims.{Potential, Multipliers}
 use Rattle.dc_claims.specs.Plans.{IsPair, IsFit}
 use Rattle.dc_claims.specs.Laws.{unknown_value}
 use Rattle.dc_claims.specs.Plans.{AreAtoms, IsCase}
-use Rattle.dc_claims.proofs.Eaches.{each_all, each-++, each-map, each-flat_map, each_range}
 use Rattle.dc_poly.specs.Combinations.{Multiple, multiple, HavePlaces}
 use Rattle.dc_claims.proofs.PartValues.{AreLocations}
 use Rattle.dc_claims.proofs.AtDuty.{unknown_parts, rest_part, product_parts, difference}
@@ -145,18 +144,18 @@ module _ (p : Pair) (d k : ℕ) (f : Flags) (fit : IsFit p d k f) where
       let q = all_products (places_of p o) k (atoms_of p o) (few_places o) fit.few_products (atoms_fit o h) i (polynomial 0 []) b in
       subst (λ n. Places n (product_number p k o i).terms) q.places q.kind.padded
 
-  side_padded : (o : Duty) → IsThere p o → (side : Side) → Each (λ u. Places (places_of p o) (part_of p d o u)) (unknowns_on p d side)
+  side_padded : (o : Duty) → IsThere p o → (side : Side) → AllByRecursion (λ u. Places (places_of p o) (part_of p d o u)) (unknowns_on p d side)
   side_padded o h side =
       each-flat_map (λ u. Places (places_of p o) (part_of p d o u)) (unknowns_at p d side) _
-      (each_all _ _ (λ l. each-map (λ u. Places (places_of p o) (part_of p d o u)) (Coefficient side l) _ (each_range (λ i. Places (places_of p o) (part_of p d o (Coefficient side l i))) 0 (length (monomials_at p d side)) (λ i a b. part_padded o h side l i (omega arith)))))
+      (each_all _ _ (λ l. each-map (λ u. Places (places_of p o) (part_of p d o u)) (Coefficient side l) _ (each-range (λ i. Places (places_of p o) (part_of p d o (Coefficient side l i))) 0 (length (monomials_at p d side)) (λ i a b. part_padded o h side l i (omega arith)))))
 
   pub difference_padded : (o : Duty) (t : ℚ) (φ χ : Potential) (multipliers : Multipliers) → IsThere p o → HavePlaces (places_of p o) (difference p d k t φ χ multipliers o)
   difference_padded o t φ χ multipliers h =
-      let u : Each (λ u. Places (places_of p o) (part_of p d o u)) (unknowns_of p d) = (bound_padded o, each-++ (λ u. Places (places_of p o) (part_of p d o u)) (unknowns_on p d New) (unknowns_on p d Old) (side_padded o h New) (side_padded o h Old)) in
+      let u : AllByRecursion (λ u. Places (places_of p o) (part_of p d o u)) (unknowns_of p d) = (bound_padded o, each-++ (λ u. Places (places_of p o) (part_of p d o u)) (unknowns_on p d New) (unknowns_on p d Old) (side_padded o h New) (side_padded o h Old)) in
       let r : HavePlaces (places_of p o) (rest_part p d k t φ χ multipliers o ∷ product_parts p d k t φ χ multipliers o) = (
         rest_padded o h,
         each-map (λ (c : Multiple). Places (places_of p o) c.terms) (λ i. multiple (neg_ℚ (multipliers o i)) (product_number p k o i).terms) (range_with_len 0 (length (products_at p k o)))
-            (each_range (λ i. Places (places_of p o) (product_number p k o i).terms) 0 (length (products_at p k o)) (λ i a b. product_padded o h i (omega arith))),
+            (each-range (λ i. Places (places_of p o) (product_number p k o i).terms) 0 (length (products_at p k o)) (λ i a b. product_padded o h i (omega arith))),
       ) in
       each-++ (λ (c : Multiple). Places (places_of p o) c.terms) (unknown_parts p d k t φ χ multipliers o) _ (each-map (λ (c : Multiple). Places (places_of p o) c.terms) (λ u. multiple (unknown_value t φ χ u) (part_of p d o u)) (unknowns_of p d) u) r
 

@@ -1,14 +1,14 @@
 -- Values certify exactly where their vector solves the main problem.
 use Rattle.std.specs.Prelude.{◌≡◌, ℕ, zero, suc, ◌+◌, ◌<◌, Bool, true, false, if◌then◌else◌, List, [], ◌∷◌, ◌++◌, map, flat_map, length, slice_get, Option, Some, ℤ, pos, neg_ℤ}
-use Rattle.std.specs.List.{range_with_len}
+use Rattle.std.specs.List.{range_with_len, AllByRecursion}
 use Rattle.std.proofs.Common.{refl, sym, ◌∙◌, ap, subst, arith}
 use Rattle.std.proofs.lemmas.Option.{slice_get_within, slice_get-get_or}
+use Rattle.dc_math.specs.Members.{each_all, each-weaker, each_right, each-map, each_map, each-flat_map, each_flat_map, each_range, each_get, get_each}
 use Rattle.dc_math.specs.Rational.{ℚ, ◌+ℚ◌, ◌-ℚ◌, ◌*ℚ◌, neg_ℚ, of_ℤ, NonNegative}
 use Rattle.dc_math.specs.RationalRing.{ring, reads, read_nat, same_form, linear₁}
 use Rattle.dc_math.specs.Order.{of_ℤ-neg_ℤ}
 use Rattle.dc_math.specs.Sums.{sum_ℚ}
 use Rattle.dc_math.specs.Vectors.{dot}
-use Rattle.dc_math.specs.Cones.{Each}
 use Rattle.dc_lp.specs.Linear.{IsSolution}
 use Rattle.dc_lp.specs.Tables.{made}
 use Rattle.dc_poly.specs.Terms.{Exponents, coef}
@@ -23,7 +23,6 @@ use Rattle.dc_coefficients.specs.Monomials.{monos_in}
 use Rattle.dc_claims.specs.Claims.{Potential, Multipliers, left_value, product_values, products_count, Certifies}
 use Rattle.dc_claims.specs.Plans.{IsFit}
 use Rattle.dc_claims.specs.Laws.{unknown_value, Splits, IsSplit, EquationsAreIdentities}
-use Rattle.dc_claims.proofs.Eaches.{each_all, each_so, each-map, each_mapped, each-flat_map, each_flat_mapped, each_second, each_ranged, each_get, get_each}
 use Rattle.dc_claims.proofs.Totals.{total, total_same, total_zero, total-neg}
 use Rattle.dc_poly.specs.Combinations.{coef_of}
 use Rattle.dc_poly.proofs.Combinations.{vanishing, value_by_coefficients}
@@ -99,14 +98,14 @@ module _ (p : Pair) (d k : ℕ) (f : Flags) (x : ℕ → ℚ) (t : ℚ) (φ χ :
   abbrev AtEquation : Option Equation → Type 0
   AtEquation o = sum_ℚ (length (columns_of p d k f)) (λ j. of_ℤ (entry_or_zero p d k o (slice_get (columns_of p d k f) j)) *ℚ x j) ≡ of_ℤ (right_or_zero p d k o)
 
-  equations_hold : ((i : ℕ) → i < length (equations_of p d k f) → AtEquation (slice_get (equations_of p d k f) i)) → Each Holds (equations_of p d k f)
+  equations_hold : ((i : ℕ) → i < length (equations_of p d k f) → AtEquation (slice_get (equations_of p d k f) i)) → AllByRecursion Holds (equations_of p d k f)
   equations_hold h = each_get Holds (equations_of p d k f)
       (λ i q e. sym (sum_is_row (entry_or_zero p d k (Some q)) x (columns_of p d k f)) ∙ subst AtEquation e (h i (slice_get_within (equations_of p d k f) i q e)))
 
   no_equation : Equation
   no_equation = record { duty = AtEntry 0; mono = [] }
 
-  by_number : Each Holds (equations_of p d k f) → (i : ℕ) → i < length (equations_of p d k f) → AtEquation (slice_get (equations_of p d k f) i)
+  by_number : AllByRecursion Holds (equations_of p d k f) → (i : ℕ) → i < length (equations_of p d k f) → AtEquation (slice_get (equations_of p d k f) i)
   by_number h i l =
       let e = slice_get-get_or (equations_of p d k f) i no_equation l in
       subst AtEquation (sym e) (sum_is_row (entry_or_zero p d k (Some _)) x (columns_of p d k f) ∙ get_each Holds (equations_of p d k f) h i _ e)
@@ -136,12 +135,12 @@ module _ (p : Pair) (d k : ℕ) (f : Flags) (x : ℕ → ℚ) (t : ℚ) (φ χ :
   product_signs o j a zero cs s g h = h j s
   product_signs o j a (suc n) cs s g h = (subst NonNegative (sym s.0) (g a (omega arith)), product_signs o (suc j) (a + 1) n cs s.1 (λ i l. g i (omega arith)) h)
 
-  duty_signs : (os : List Duty) → Each (λ o. (i : ℕ) → i < products_count p k o → NonNegative (multipliers o i)) os → (j : ℕ) → SplitFrom x t φ χ multipliers j (flat_map (multipliers_at p k) os) → SignsFrom j (flat_map (multipliers_at p k) os)
+  duty_signs : (os : List Duty) → AllByRecursion (λ o. (i : ℕ) → i < products_count p k o → NonNegative (multipliers o i)) os → (j : ℕ) → SplitFrom x t φ χ multipliers j (flat_map (multipliers_at p k) os) → SignsFrom j (flat_map (multipliers_at p k) os)
   duty_signs [] g j s = tt
   duty_signs (o ∷ os) g j s =
       product_signs o j 0 (length (products_at p k o)) (flat_map (multipliers_at p k) os) s (λ i l. g.0 i (let e = count_is p d k t φ χ multipliers o in omega arith)) (duty_signs os g.1)
 
-  signs_each : (a : ℕ) (cs : List Column) → SplitFrom x t φ χ multipliers a cs → ((i : ℕ) → i < length cs → NonNegative (x (a + i))) → Each HasSign cs
+  signs_each : (a : ℕ) (cs : List Column) → SplitFrom x t φ χ multipliers a cs → ((i : ℕ) → i < length cs → NonNegative (x (a + i))) → AllByRecursion HasSign cs
   signs_each a [] s h = tt
   signs_each a (c ∷ cs) s h = (
     one c s.0 (subst (λ j. NonNegative (x j)) (let e : a + 0 ≡ a = omega arith in e) (h 0 (omega arith))),
@@ -158,10 +157,10 @@ module _ (p : Pair) (d k : ℕ) (f : Flags) (x : ℕ → ℚ) (t : ℚ) (φ χ :
   certified c =
       let owed = each_owed p f right in
       let s = unknown_signs 0 (unknowns_of p d) (flat_map (multipliers_at p k) (duties_of f)) (split_all x t φ χ multipliers (columns_of p d k f) split)
-      (duty_signs (duties_of f) (each_so (IsOwed p) _ (duties_of f) (λ o w. (c.meets o w).signs) owed)) in
+      (duty_signs (duties_of f) (each-weaker (IsOwed p) _ (λ o w. (c.meets o w).signs) (duties_of f) owed)) in
       record {
         signs = λ j l. subst (λ i. NonNegative (x i)) (let e : 0 + j ≡ j = omega arith in e) (sign_at 0 (columns_of p d k f) s j l);
-        equations = by_number (each-flat_map Holds (equations_at p d k) (duties_of f) (each_so (IsOwed p) _ (duties_of f) holds_for owed));
+        equations = by_number (each-flat_map Holds (equations_at p d k) (duties_of f) (each-weaker (IsOwed p) _ holds_for (duties_of f) owed));
       }
     where
       zero_at : (o : Duty) → IsOwed p o → (m : Exponents) → coefficient o m ≡ of_ℤ (pos 0)
@@ -170,7 +169,7 @@ module _ (p : Pair) (d k : ℕ) (f : Flags) (x : ℕ → ℚ) (t : ℚ) (φ χ :
           (λ xs l. difference_value p d k t φ χ multipliers o xs (locations_fit p d k f fit o t φ χ w.there) (atoms_fit p d k f fit o w.there) l
           ∙ no_difference _ _ ((c.meets o w).identity xs l)) m
 
-      holds_for : (o : Duty) → IsOwed p o → Each Holds (equations_at p d k o)
+      holds_for : (o : Duty) → IsOwed p o → AllByRecursion Holds (equations_at p d k o)
       holds_for o w = each-map Holds _ (monos_in (polynomials_at p d k o)) (each_all _ _ (λ m. equation_of_zero (record { duty = o; mono = m }) (owed_once p f right o w) (zero_at o w m)))
 
   -- ---- and back
@@ -180,16 +179,16 @@ module _ (p : Pair) (d k : ℕ) (f : Flags) (x : ℕ → ℚ) (t : ℚ) (φ χ :
       signs_of : (o : Duty) → IsOwed p o → (i : ℕ) → i < products_count p k o → NonNegative (multipliers o i)
       signs_of o w i l =
           let a = signs_each 0 (columns_of p d k f) (split_all x t φ χ multipliers (columns_of p d k f) split) (λ j l. subst (λ i. NonNegative (x i)) (let e : j ≡ 0 + j = omega arith in e) (s.signs j l)) in
-          let b = each_second HasSign (flat_map both_signs (unknowns_of p d)) _ a in
-          let c = once_each (λ o. Each HasSign (multipliers_at p k o)) o (duties_of f) (owed_once p f right o w) (each_flat_mapped HasSign (multipliers_at p k) (duties_of f) b) in
-          let r = each_ranged (λ i. NonNegative (multipliers o i)) 0 (length (products_at p k o)) (each_mapped HasSign (Times o) _ c) i (let e = count_is p d k t φ χ multipliers o in omega arith) in
+          let b = each_right HasSign (flat_map both_signs (unknowns_of p d)) _ a in
+          let c = once_each (λ o. AllByRecursion HasSign (multipliers_at p k o)) o (duties_of f) (owed_once p f right o w) (each_flat_map HasSign (multipliers_at p k) (duties_of f) b) in
+          let r = each_range (λ i. NonNegative (multipliers o i)) 0 (length (products_at p k o)) (each_map HasSign (Times o) _ c) i (let e = count_is p d k t φ χ multipliers o in omega arith) in
           subst (λ i. NonNegative (multipliers o i)) (let e : 0 + i ≡ i = omega arith in e) r
 
       zero_at : (o : Duty) → IsOwed p o → (m : Exponents) → coefficient o m ≡ of_ℤ (pos 0)
       zero_at o w =
-          let h = once_each (λ o. Each Holds (equations_at p d k o)) o (duties_of f) (owed_once p f right o w) (each_flat_mapped Holds (equations_at p d k) (duties_of f) (equations_hold s.equations)) in
-          let g = each_so _ (λ m. coefficient o m ≡ of_ℤ (pos 0)) _ (λ m e. zero_of_equation (record { duty = o; mono = m }) (owed_once p f right o w) e) (each_mapped Holds _ (monos_in (polynomials_at p d k o)) h) in
-          all_coefficients (difference p d k t φ χ multipliers o) (subst (λ ps. Each (λ m. coefficient o m ≡ of_ℤ (pos 0)) (monos_in ps)) (sym (polynomials_are p d k t φ χ multipliers o)) g)
+          let h = once_each (λ o. AllByRecursion Holds (equations_at p d k o)) o (duties_of f) (owed_once p f right o w) (each_flat_map Holds (equations_at p d k) (duties_of f) (equations_hold s.equations)) in
+          let g = each-weaker _ (λ m. coefficient o m ≡ of_ℤ (pos 0)) (λ m e. zero_of_equation (record { duty = o; mono = m }) (owed_once p f right o w) e) _ (each_map Holds _ (monos_in (polynomials_at p d k o)) h) in
+          all_coefficients (difference p d k t φ χ multipliers o) (subst (λ ps. AllByRecursion (λ m. coefficient o m ≡ of_ℤ (pos 0)) (monos_in ps)) (sym (polynomials_are p d k t φ χ multipliers o)) g)
 
       identity_of : (o : Duty) → IsOwed p o → (xs : List ℤ) → length xs ≡ places_of p o → left_value p d t φ χ o xs ≡ dot (made (products_count p k o) (multipliers o)) (product_values p k o xs)
       identity_of o w xs l =

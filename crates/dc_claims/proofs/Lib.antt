@@ -4,7 +4,6 @@ pub mod Bounds
 pub mod Totals
 pub mod Counting
 pub mod PartValues
-pub mod Eaches
 pub mod Listed
 pub mod AtDuty
 pub mod Fits

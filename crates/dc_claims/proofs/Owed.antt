@@ -1,9 +1,10 @@
 -- Where the flags are right, the duties that they name are those that are owed, each once.
 use Rattle.std.specs.Prelude.{◌≡◌, ℕ, zero, suc, ◌+◌, ◌≤◌, ◌<◌, Bool, true, false, cond, eqb, List, [], ◌∷◌, map, length, slice_index_or, pos}
+use Rattle.std.specs.List.{AllByRecursion}
 use Rattle.std.proofs.Common.{refl, sym, ◌∙◌, ap, ap₂, subst, arith}
 use Rattle.std.proofs.lemmas.List.{length-map, get_or-map}
+use Rattle.dc_math.specs.Members.{each-++, each-map}
 use Rattle.dc_math.specs.Rational.{ℚ, ◌+ℚ◌, of_ℤ, zero-+ℚ}
-use Rattle.dc_math.specs.Cones.{Each}
 use Rattle.dc_syntax.specs.declared.tree.Side.{Side}
 use Rattle.dc_syntax.specs.declared.tree.Side.TheVariants.{New, Old}
 use Rattle.dc_affine.specs.declared.atom.Atom.{Atom}
@@ -12,7 +13,6 @@ use Rattle.dc_points.specs.Shown.{IsFlag, AreFlags}
 use Rattle.dc_claims.specs.Duties.{Pair, system_of, no_edge, edge_atoms, atoms_of, IsOwed, Flags, numbers_set, duties_along, duty_at_exit, duties_of, AreRight, same_duty}
 use Rattle.dc_claims.specs.declared.duty.Duty.{Duty}
 use Rattle.dc_claims.specs.declared.duty.Duty.TheVariants.{Along, AtExit, AtEntry}
-use Rattle.dc_claims.proofs.Eaches.{each-++, each-map}
 use Rattle.dc_claims.proofs.Counting.{passing, passing-++, passing-map, none_mapped}
 use Rattle.dc_claims.proofs.Totals.{total, plus_zero, eqb_same, eqb_other, eqb_is}
 
@@ -56,11 +56,11 @@ occurs_at_exit o side true h = ap (λ b. cond b 1 0 + 0) h
 occurs_at_exit o side false h = refl
 
 -- each that occurs once holds what each holds
-pub once_each : (P : Duty → Type 0) (o : Duty) (os : List Duty) → occurs o os ≡ 1 → Each P os → P o
+pub once_each : (P : Duty → Type 0) (o : Duty) (os : List Duty) → occurs o os ≡ 1 → AllByRecursion P os → P o
 once_each P o [] h e = absurd (omega arith)
 once_each P o (c ∷ cs) h e = by (once_each P o cs) (same_duty o c) refl h
   where
-    by : (occurs o cs ≡ 1 → Each P cs → P o) → (b : Bool) → same_duty o c ≡ b → cond b 1 0 + occurs o cs ≡ 1 → P o
+    by : (occurs o cs ≡ 1 → AllByRecursion P cs → P o) → (b : Bool) → same_duty o c ≡ b → cond b 1 0 + occurs o cs ≡ 1 → P o
     by r true q h = subst P (sym (same_duty_is o c q)) e.0
     by r false q h = r (omega arith) e.1
 
@@ -101,14 +101,14 @@ count_set k (suc i) (b ∷ bs) (h ∷ hs) f l n = by b (let e : suc k + i ≡ k 
     by true r = ap₂ (λ b j. cond b 1 0 + j) (eqb_other (k + suc i) k (λ e. omega arith)) r
     by false r = r
 
-each_set : (P : ℕ → Type 0) (k : ℕ) (bs : List Bool) (hs : List (List Atom)) → AreFlags bs hs → ((i : ℕ) → i < length hs → ¬ IsDead (slice_index_or hs i []) → P (k + i)) → Each P (numbers_set k bs)
+each_set : (P : ℕ → Type 0) (k : ℕ) (bs : List Bool) (hs : List (List Atom)) → AreFlags bs hs → ((i : ℕ) → i < length hs → ¬ IsDead (slice_index_or hs i []) → P (k + i)) → AllByRecursion P (numbers_set k bs)
 each_set P k [] [] f g = tt
 each_set P k [] (h ∷ hs) f g = absurd f
 each_set P k (b ∷ bs) [] f g = absurd f
 each_set P k (b ∷ bs) (h ∷ hs) f g =
     by b (f.0.0) (each_set P (suc k) bs hs f.1 (λ i l n. subst P (let e : k + suc i ≡ suc k + i = omega arith in e) (g (suc i) (omega arith) n)))
   where
-    by : (b : Bool) → (b ≡ true → ¬ IsDead h) → Each P (numbers_set (suc k) bs) → Each P (numbers_set k (b ∷ bs))
+    by : (b : Bool) → (b ≡ true → ¬ IsDead h) → AllByRecursion P (numbers_set (suc k) bs) → AllByRecursion P (numbers_set k (b ∷ bs))
     by true l r = (subst P (let e : k + 0 ≡ k = omega arith in e) (g 0 (omega arith) (l refl)), r)
     by false l r = r
 
@@ -195,14 +195,14 @@ module _ (p : Pair) (f : Flags) (right : AreRight p f) where
       (count_set 0 n (edge_flags side) (map (edge_atoms p side) (system_of p side).edges) (right_edges side) (let t = o.there in let l = length-map (system_of p side).edges (edge_atoms p side) in omega arith)
       (λ dead. o.live (subst IsDead (edge_numbered side n o.there) dead)))
 
-  each_edge : (side : Side) → Each (IsOwed p) (duties_along side (edge_flags side))
+  each_edge : (side : Side) → AllByRecursion (IsOwed p) (duties_along side (edge_flags side))
   each_edge side = each-map (IsOwed p) (Along side) (numbers_set 0 (edge_flags side))
       (each_set (λ n. IsOwed p (Along side n)) 0 (edge_flags side) (map (edge_atoms p side) (system_of p side).edges) (right_edges side)
       (λ i l n. let e : i ≡ 0 + i = omega arith in
       let h : i < length (system_of p side).edges = (let q = length-map (system_of p side).edges (edge_atoms p side) in omega arith) in
       subst (λ j. IsOwed p (Along side j)) e (record { there = h; live = λ dead. n (subst IsDead (sym (edge_numbered side i h)) dead) })))
 
-  each_exit : (side : Side) (b : Bool) → IsFlag b (atoms_of p (AtExit side)) → Each (IsOwed p) (duty_at_exit side b)
+  each_exit : (side : Side) (b : Bool) → IsFlag b (atoms_of p (AtExit side)) → AllByRecursion (IsOwed p) (duty_at_exit side b)
   each_exit side true h = (record { there = tt; live = h.0 refl }, tt)
   each_exit side false h = tt
 
@@ -211,7 +211,7 @@ module _ (p : Pair) (f : Flags) (right : AreRight p f) where
   exit_once Old true h o = refl
   exit_once side false h o = absurd (let c : false ≡ true = h.1 o.live in cc)
 
-  pub each_owed : Each (IsOwed p) (duties_of f)
+  pub each_owed : AllByRecursion (IsOwed p) (duties_of f)
   unfolding edge_flags
   each_owed =
       each-++ (IsOwed p) (duties_along New f.new_edges) _ (each_edge New)

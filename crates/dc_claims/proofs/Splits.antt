@@ -1,11 +1,11 @@
 -- Values have a split, each solution is the split of some values, and a split costs the threshold.
 use Rattle.std.specs.Prelude.{◌≡◌, ◌⊎◌, ℕ, zero, suc, ◌+◌, ◌≤◌, ◌<◌, Bool, true, false, cond, ◌&&◌, eqb, List, [], ◌∷◌, ◌++◌, flat_map, length, slice_get, Option, Some, None, pos, neg_ℤ}
-use Rattle.std.specs.List.{range_with_len}
+use Rattle.std.specs.List.{range_with_len, AllByRecursion}
 use Rattle.std.proofs.Common.{refl, sym, ◌∙◌, ap, ap₂, subst, arith, inl, inr}
 use Rattle.std.proofs.lemmas.Option.{slice_get_within}
+use Rattle.dc_math.specs.Members.{each_all, each-++, each-map, each-flat_map, get_each}
 use Rattle.dc_math.specs.Rational.{ℚ, ◌+ℚ◌, ◌-ℚ◌, ◌*ℚ◌, of_ℤ, ◌≤ℚ◌, ≤ℚ_refl, ≤ℚ_total, ≤ℚ-sub, NonNegative}
 use Rattle.dc_math.specs.RationalRing.{ring, reads, read_nat, same_form}
-use Rattle.dc_math.specs.Cones.{Each}
 use Rattle.dc_syntax.specs.declared.tree.Side.{Side}
 use Rattle.dc_syntax.specs.declared.tree.Side.TheVariants.{New, Old}
 use Rattle.dc_claims.specs.Duties.{Pair, system_of, Flags, duties_of, same_side, same_duty}
@@ -17,7 +17,6 @@ use Rattle.dc_claims.specs.Parts.{unknowns_at, unknowns_on, unknowns_of}
 use Rattle.dc_claims.specs.Problems.{Column, Plus, Minus, Times, both_signs, products_at, multipliers_at, columns_of, cost_in, cost_or_zero}
 use Rattle.dc_claims.specs.Claims.{Potential, Multipliers}
 use Rattle.dc_claims.specs.Laws.{unknown_value, IsSplit, SplitsExist, SolutionsSplit, SplitsCost}
-use Rattle.dc_claims.proofs.Eaches.{each_all, each-map, each-flat_map, each-++, get_each}
 use Rattle.dc_claims.proofs.Totals.{total, plus_zero, total_zero, eqb_same}
 use Rattle.dc_claims.proofs.Counting.{passing, passing-++, passing-map, none_mapped, none_flat, flat_at_most, range_once}
 use Rattle.dc_claims.proofs.Owed.{same_duty_refl, occurs_at_most}
@@ -56,10 +55,10 @@ IsTimes (Plus u) = ⊥
 IsTimes (Minus u) = ⊥
 IsTimes (Times o i) = Unit {0}
 
-all_times : (p : Pair) (d k : ℕ) (os : List Duty) → Each IsTimes (flat_map (multipliers_at p k) os)
+all_times : (p : Pair) (d k : ℕ) (os : List Duty) → AllByRecursion IsTimes (flat_map (multipliers_at p k) os)
 all_times p d k os = each-flat_map IsTimes (multipliers_at p k) os (each_all _ os (λ o. each-map IsTimes (Times o) _ (each_all _ (range_with_len 0 (length (products_at p k o))) (λ i. tt))))
 
-next_after : (us : List Unknown) (cs : List Column) (u : Unknown) (j : ℕ) → Each IsTimes cs → slice_get (flat_map both_signs us ++ cs) j ≡ Some (Plus u) → slice_get (flat_map both_signs us ++ cs) (suc j) ≡ Some (Minus u)
+next_after : (us : List Unknown) (cs : List Column) (u : Unknown) (j : ℕ) → AllByRecursion IsTimes cs → slice_get (flat_map both_signs us ++ cs) j ≡ Some (Plus u) → slice_get (flat_map both_signs us ++ cs) (suc j) ≡ Some (Minus u)
 next_after [] cs u j h e = absurd (get_each IsTimes cs h j (Plus u) e)
 next_after (v ∷ us) cs u zero h e = let s : v ≡ u = cc in ap (λ w. Some (Minus w)) s
 next_after (v ∷ us) cs u (suc zero) h e = cc
@@ -252,7 +251,7 @@ module _ (p : Pair) (d k : ℕ) (f : Flags) (x : ℕ → ℚ) where
   values_split h j (Times o i) e = sym (ap x (place_is (Times o i) j e))
 
 -- ---- the cost
-total_nothing : {A : Type 0} (g : A → ℚ) (xs : List A) → Each (λ y. g y ≡ of_ℤ (pos 0)) xs → total g xs ≡ of_ℤ (pos 0)
+total_nothing : {A : Type 0} (g : A → ℚ) (xs : List A) → AllByRecursion (λ y. g y ≡ of_ℤ (pos 0)) xs → total g xs ≡ of_ℤ (pos 0)
 total_nothing g [] h = refl
 total_nothing g (y ∷ xs) h = ap₂ ◌+ℚ◌ h.0 (total_nothing g xs h.1) ∙ plus_zero (of_ℤ (pos 0))
 
@@ -271,7 +270,7 @@ splits_cost p d k f x t φ χ multipliers s =
     (total_zero _ (duties_of f) (λ o. total_zero _ (range_with_len 0 (length (products_at p k o))) (λ i. times_zero (multipliers o i))))
     ∙ shape t
   where
-    free : (side : Side) → Each (λ u. unknown_value t φ χ u *ℚ of_ℤ (cost_in (Plus u)) ≡ of_ℤ (pos 0)) (unknowns_on p d side)
+    free : (side : Side) → AllByRecursion (λ u. unknown_value t φ χ u *ℚ of_ℤ (cost_in (Plus u)) ≡ of_ℤ (pos 0)) (unknowns_on p d side)
     free side =
         each-flat_map (λ u. unknown_value t φ χ u *ℚ of_ℤ (cost_in (Plus u)) ≡ of_ℤ (pos 0)) (unknowns_at p d side) _
         (each_all _ _ (λ l. each-map (λ u. unknown_value t φ χ u *ℚ of_ℤ (cost_in (Plus u)) ≡ of_ℤ (pos 0)) (Coefficient side l) _ (each_all _ _ (λ i. times_zero (unknown_value t φ χ (Coefficient side l i))))))

@@ -5,7 +5,8 @@ use Rattle.std.proofs.lemmas.Bool.{cases_lt}
 use Rattle.std.specs.declared.cmp.Ordering.{Ordering}
 use Rattle.std.specs.declared.cmp.Ordering.TheVariants.{Less, Equal, Greater}
 use Rattle.std.proofs.Common.{refl, sym, ◌∙◌, ap, subst, arith, inl, inr}
-use Rattle.dc_math.specs.OrderedLists.{Ordered, In, pairs_ordered}
+use Rattle.dc_math.specs.Members.{Among, head, tail, none_among, among_first, among_cons}
+use Rattle.dc_math.specs.OrderedLists.{Ordered, pairs_ordered}
 use Rattle.dc_poly.specs.declared.monomial.Term.{Term}
 use Rattle.dc_poly.specs.Terms.{Exponents, TermList, Before, Polynomial}
 use Rattle.dc_poly.specs.Order.{graded, Told}
@@ -98,36 +99,35 @@ ordered-with_all [] ms o = o
 ordered-with_all (p ∷ ps) ms o = ordered-with_monos p (with_all ps ms) (ordered-with_all ps ms o)
 
 -- ---- members
-pub in-with_mono_old : (m k : Exponents) (ms : List Exponents) → In k ms → In k (with_mono m ms)
+pub in-with_mono_old : (m k : Exponents) (ms : List Exponents) → Among k ms → Among k (with_mono m ms)
 in-with_mono_old m k (l ∷ ks) h = by (in-with_mono_old m k ks) (graded m l) h
   where
-    by : (In k ks → In k (with_mono m ks)) → (o : Ordering) → In k (l ∷ ks) → In k (placed m l ks o)
-    by r Less h = inr h
+    by : (Among k ks → Among k (with_mono m ks)) → (o : Ordering) → Among k (l ∷ ks) → Among k (placed m l ks o)
+    by r Less h = tail h
     by r Equal h = h
-    by r Greater (inl e) = inl e
-    by r Greater (inr i) = inr (r i)
-in-with_mono_old m k [] h = absurd h
+    by r Greater h = elim (among_cons h) [ inl e ↦ among_first e | inr i ↦ tail (r i) ]
+in-with_mono_old m k [] h = none_among h
 
-pub in-with_mono_new : (m : Exponents) (ms : List Exponents) → In m (with_mono m ms)
-in-with_mono_new m [] = inl refl
+pub in-with_mono_new : (m : Exponents) (ms : List Exponents) → Among m (with_mono m ms)
+in-with_mono_new m [] = head
 in-with_mono_new m (l ∷ ks) = by (in-with_mono_new m ks) (graded m l) (graded_told m l)
   where
-    by : In m (with_mono m ks) → (o : Ordering) → Told m l o → In m (placed m l ks o)
-    by r Less t = inl refl
-    by r Equal t = inl t
-    by r Greater t = inr r
+    by : Among m (with_mono m ks) → (o : Ordering) → Told m l o → Among m (placed m l ks o)
+    by r Less t = head
+    by r Equal t = among_first t
+    by r Greater t = tail r
 
-pub in_with_mono : (m k : Exponents) (ms : List Exponents) → In k (with_mono m ms) → (k ≡ m) ⊎ In k ms
-in_with_mono m k [] (inl e) = inl e
-in_with_mono m k [] (inr h) = inr h
+pub in_with_mono : (m k : Exponents) (ms : List Exponents) → Among k (with_mono m ms) → (k ≡ m) ⊎ Among k ms
+in_with_mono m k [] h = among_cons h
 in_with_mono m k (l ∷ ks) h = by (in_with_mono m k ks) (graded m l) h
   where
-    by : (In k (with_mono m ks) → (k ≡ m) ⊎ In k ks) → (o : Ordering) → In k (placed m l ks o) → (k ≡ m) ⊎ In k (l ∷ ks)
-    by r Less (inl e) = inl e
-    by r Less (inr h) = inr h
+    by : (Among k (with_mono m ks) → (k ≡ m) ⊎ Among k ks) → (o : Ordering) → Among k (placed m l ks o) → (k ≡ m) ⊎ Among k (l ∷ ks)
+    by r Less h = among_cons h
     by r Equal h = inr h
-    by r Greater (inl e) = inr (inl e)
-    by r Greater (inr h) = elim (r h) [ inl e ↦ inl e | inr i ↦ inr (inr i) ]
+    by r Greater h = elim (among_cons h) [
+      | inl e ↦ inr (among_first e)
+      | inr i ↦ elim (r i) [ inl e ↦ inl e | inr j ↦ inr (tail j) ]
+    ]
 
 -- ---- halving
 index-before : (ms : List Exponents) (i j : ℕ) → Ordered Before ms → i < j → j < length ms → Before (slice_index_or ms i []) (slice_index_or ms j [])

@@ -3,7 +3,8 @@ use Rattle.std.specs.Prelude.{◌≡◌, ◌⊎◌, ℕ, zero, suc, ◌+◌, ◌
 use Rattle.std.specs.List.{AllByRecursion}
 use Rattle.std.proofs.Common.{refl, sym, ◌∙◌, ap, subst, arith, inl, inr}
 use Rattle.std.proofs.lemmas.Int.{ints}
-use Rattle.dc_math.specs.OrderedLists.{Ordered, In, each-in}
+use Rattle.dc_math.specs.Members.{Among, head, tail, each_among, among_cons}
+use Rattle.dc_math.specs.OrderedLists.{Ordered}
 use Rattle.dc_lp.specs.declared.Entry.{Entry}
 use Rattle.dc_poly.specs.declared.monomial.Term.{Term}
 use Rattle.dc_poly.specs.Terms.{Exponents, TermList, Before, Ahead, Canonical, same_mono, coef}
@@ -17,8 +18,8 @@ use Rattle.dc_coefficients.proofs.Placing.{any_default}
 pub record IsLeft (f : TermList) (ms : List Exponents) (p : TermList) : Type 0 where
   pub in_order : Ordered Before ms
   pub canonical : Canonical p
-  pub listed : AllByRecursion (λ (t : Term). In t.mono ms) p
-  pub same : (m : Exponents) → In m ms → coef f m ≡ coef p m
+  pub listed : AllByRecursion (λ (t : Term). Among t.mono ms) p
+  pub same : (m : Exponents) → Among m ms → coef f m ≡ coef p m
 
 -- ---- coefficients
 pub coef-head : (t : Term) (p : TermList) (m : Exponents) → t.mono ≡ m → Ahead t.mono p → coef (t ∷ p) m ≡ t.coef
@@ -32,17 +33,19 @@ coef-other t p m h = by (same_mono t.mono m) refl
     by false q = omega (arith, ints)
 
 -- ---- the terms behind a monomial stand among those behind it
-narrowed : (m : Exponents) (ms : List Exponents) (p : TermList) → Ahead m p → AllByRecursion (λ (t : Term). In t.mono (m ∷ ms)) p → AllByRecursion (λ (t : Term). In t.mono ms) p
+narrowed : (m : Exponents) (ms : List Exponents) (p : TermList) → Ahead m p → AllByRecursion (λ (t : Term). Among t.mono (m ∷ ms)) p → AllByRecursion (λ (t : Term). Among t.mono ms) p
 narrowed m ms [] a h = tt
-narrowed m ms (t ∷ p) a (inl e, h) = absurd (Before-not m (subst (λ k. Before m k) e a.0))
-narrowed m ms (t ∷ p) a (inr i, h) = (i, narrowed m ms p a.1 h)
+narrowed m ms (t ∷ p) a h = elim (among_cons h.0) [
+  | inl e ↦ absurd (Before-not m (subst (λ k. Before m k) e a.0))
+  | inr i ↦ (i, narrowed m ms p a.1 h.1)
+]
 
 ahead_more : (m k : Exponents) (p : TermList) → Before m k → Ahead k p → Ahead m p
 ahead_more m k [] b h = tt
 ahead_more m k (t ∷ p) b h = (Before-trans m k t.mono b h.0, ahead_more m k p b h.1)
 
-not_later : (m k : Exponents) (ms : List Exponents) → AllByRecursion (Before m) ms → In k ms → ¬ (m ≡ k)
-not_later m k ms b i e = Before-not m (subst (λ x. Before m x) (sym e) (each-in (Before m) k ms b i))
+not_later : (m k : Exponents) (ms : List Exponents) → AllByRecursion (Before m) ms → Among k ms → ¬ (m ≡ k)
+not_later m k ms b i e = Before-not m (subst (λ x. Before m x) (sym e) (each_among (Before m) b i))
 
 -- ---- one monomial
 pub hit : (f : TermList) (m : Exponents) (ms : List Exponents) (t : Term) (p : TermList) → IsLeft f (m ∷ ms) (t ∷ p) → t.mono ≡ m → IsLeft f ms p × (coef f m ≡ t.coef)
@@ -51,27 +54,27 @@ hit f m ms t p h e = (
     in_order = h.in_order.1;
     canonical = h.canonical.2;
     listed = narrowed m ms p (subst (λ k. Ahead k p) e h.canonical.1) h.listed.1;
-    same = λ k i. h.same k (inr i) ∙ coef-other t p k (λ q. not_later m k ms h.in_order.0 i (sym e ∙ q));
+    same = λ k i. h.same k (tail i) ∙ coef-other t p k (λ q. not_later m k ms h.in_order.0 i (sym e ∙ q));
   },
-  h.same m (inl refl) ∙ coef-head t p m e h.canonical.1,
+  h.same m head ∙ coef-head t p m e h.canonical.1,
 )
 
 pub miss : (f : TermList) (m : Exponents) (ms : List Exponents) (t : Term) (p : TermList) → IsLeft f (m ∷ ms) (t ∷ p) → ¬ (t.mono ≡ m) → IsLeft f ms (t ∷ p) × (coef f m ≡ pos 0)
-miss f m ms t p h n = by h.listed.0
+miss f m ms t p h n = by (among_cons h.listed.0)
   where
-    by : In t.mono (m ∷ ms) → IsLeft f ms (t ∷ p) × (coef f m ≡ pos 0)
+    by : (t.mono ≡ m) ⊎ Among t.mono ms → IsLeft f ms (t ∷ p) × (coef f m ≡ pos 0)
     by (inl e) = absurd (n e)
     by (inr i) =
-        let b : Before m t.mono = each-in (Before m) t.mono ms h.in_order.0 i in
+        let b : Before m t.mono = each_among (Before m) h.in_order.0 i in
         let a : Ahead m (t ∷ p) = (b, ahead_more m t.mono p b h.canonical.1) in (
-          record { in_order = h.in_order.1; canonical = h.canonical; listed = narrowed m ms (t ∷ p) a h.listed; same = λ k j. h.same k (inr j) },
-          h.same m (inl refl) ∙ coef_ahead m (t ∷ p) a,
+          record { in_order = h.in_order.1; canonical = h.canonical; listed = narrowed m ms (t ∷ p) a h.listed; same = λ k j. h.same k (tail j) },
+          h.same m head ∙ coef_ahead m (t ∷ p) a,
         )
 
 pub none : (f : TermList) (m : Exponents) (ms : List Exponents) → IsLeft f (m ∷ ms) [] → IsLeft f ms [] × (coef f m ≡ pos 0)
 none f m ms h = (
-  record { in_order = h.in_order.1; canonical = tt; listed = tt; same = λ k j. h.same k (inr j) },
-  h.same m (inl refl),
+  record { in_order = h.in_order.1; canonical = tt; listed = tt; same = λ k j. h.same k (tail j) },
+  h.same m head,
 )
 
 -- ---- by index
@@ -131,7 +134,7 @@ entry_there r (pos zero) n = absurd (n refl)
 entry_there r (pos (suc k)) n = refl
 entry_there r (negsuc k) n = refl
 
-pub walk_starts : (f : TermList) (ms : List Exponents) (r : ℕ) (es : List Entry) → Ordered Before ms → Canonical f → AllByRecursion (λ (t : Term). In t.mono ms) f → IsWalked f ms r 0 0 es es
+pub walk_starts : (f : TermList) (ms : List Exponents) (r : ℕ) (es : List Entry) → Ordered Before ms → Canonical f → AllByRecursion (λ (t : Term). Among t.mono ms) f → IsWalked f ms r 0 0 es es
 walk_starts f ms r es o c h = record { inside = omega arith; left = record { in_order = o; canonical = c; listed = h; same = λ m i. refl }; entries = sym (nothing_more es) }
 
 module _ (f : TermList) (ms : List Exponents) (r i j : ℕ) (before now : List Entry) (h : IsWalked f ms r i j before now) (m : Exponents) (l : i < length ms) (is : m ≡ slice_index_or ms i m) where

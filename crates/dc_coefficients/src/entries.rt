@@ -1,7 +1,8 @@
 //! The entries of a column.
 ghost use Rattle.std.specs.Prelude.{◌≡◌, ◌≤◌, ◌+◌, ◌++◌, ◌^◌, ◌<◌, length, map, OnOk, IsTrue, ◌↔◌};
 ghost use Rattle.std.specs.List.{AllByRecursion};
-ghost use Rattle.dc_math.specs.OrderedLists.{In, Ordered};
+ghost use Rattle.dc_math.specs.Members.{Among};
+ghost use Rattle.dc_math.specs.OrderedLists.{Ordered};
 ghost use Rattle.dc_poly.specs.declared.monomial.Term.{Term};
 ghost use Rattle.dc_poly.specs.Terms.{Before, coef};
 ghost use Rattle.dc_coefficients.specs.Entries.{entries_from, entry};
@@ -35,7 +36,7 @@ pub fn push_entries(
     form: &Poly,
 ) -> Result<(), AllocError>
     requires in_order { Ordered Before monos.now }
-    requires listed { AllByRecursion (λ (t : Term). In t.mono monos.now) form.now.terms }
+    requires listed { AllByRecursion (λ (t : Term). Among t.mono monos.now) form.now.terms }
     requires room { row + length monos.now < 2 ^ 63 }
     ensures { OnOk result
         (column.new.items ≡ column.old.items ++ entries_from row (map (coef form.now.terms) monos.now)) }

@@ -8,8 +8,8 @@ use Rattle.std.proofs.lemmas.Int.{ints}
 use Rattle.std.proofs.lemmas.List.{get_or_past}
 use Rattle.std.proofs.lemmas.List.Elements.{recursion_from_All}
 use Rattle.std.proofs.lemmas.List.Sums.{sum_by-cons, sum_by-append}
+use Rattle.dc_math.specs.Members.{each_all, each-weaker, each-++, each-map, each-flat_map, get_each}
 use Rattle.dc_math.specs.OrderedLists.{Ordered}
-use Rattle.dc_math.specs.Cones.{Each}
 use Rattle.dc_syntax.specs.declared.tree.Side.{Side}
 use Rattle.dc_syntax.specs.declared.tree.Side.TheVariants.{New, Old}
 use Rattle.dc_poly.specs.Terms.{Exponents, TermList, Before, Polynomial, polynomial, term, coef, degree, degree_of, weight}
@@ -35,7 +35,6 @@ use Rattle.dc_claims.specs.Duties.{Pair, Flags, system_of, edge_at, exit_of, ato
 use Rattle.dc_claims.specs.Parts.{unknowns_of, when, before, behind, itself, at_inputs, monomial_at, part_of, rest_of}
 use Rattle.dc_claims.specs.Plans.{IsFit}
 use Rattle.dc_claims.specs.Problems.{Column, Plus, Minus, Times, both_signs, cost_or_zero, Equation, equation, products_at, product_number, multipliers_at, polynomials_at, equations_at, columns_of, equations_of, entry_of, entry_or_zero, right_of, right_or_zero, main_problem}
-use Rattle.dc_claims.proofs.Eaches.{each_all, each_so, each-++, each-map, each-flat_map, get_each}
 use Rattle.dc_claims.proofs.Fits.{is_edge, atoms_fit, few_places}
 use Rattle.dc_table.specs.Tables.{part_weight}
 use Rattle.dc_table.proofs.Weights.{coefficients_light}
@@ -72,7 +71,7 @@ sum_zeros : {A : Type 0} (ms : List A) → sum_by unsigned_abs (map (λ m. pos 0
 sum_zeros [] = refl
 sum_zeros (m ∷ ms) = let a = sum_by-cons unsigned_abs (pos 0) (map (λ i. pos 0) ms) in let b = sum_zeros ms in omega arith
 
-each_from : {A : Type 0} (P : A → Type 0) (xs : List A) → AllByRecursion P xs → Each P xs
+each_from : {A : Type 0} (P : A → Type 0) (xs : List A) → AllByRecursion P xs → AllByRecursion P xs
 each_from P [] h = tt
 each_from P (x ∷ xs) h = (h.0, each_from P xs h.1)
 
@@ -201,7 +200,7 @@ module _ (p : Pair) (d k : ℕ) (f : Flags) (fit : IsFit p d k f) where
 
   -- ---- in the equations of all duties
   module _ (v : Equation → ℤ) (each : (o : Duty) → IsThere p o → sum_by unsigned_abs (map (λ m. v (equation o m)) (monos o)) ≤ part_weight) where
-    in_duties : (os : List Duty) → Each (IsThere p) os → sum_by (λ q. unsigned_abs (v q)) (flat_map (equations_at p d k) os) ≤ length os * part_weight
+    in_duties : (os : List Duty) → AllByRecursion (IsThere p) os → sum_by (λ q. unsigned_abs (v q)) (flat_map (equations_at p d k) os) ≤ length os * part_weight
     in_duties [] h = omega arith
     in_duties (o ∷ os) h =
         more (length os) (sum_by (λ q. unsigned_abs (v q)) (equations_at p d k o)) (sum_by (λ q. unsigned_abs (v q)) (flat_map (equations_at p d k) os)) _
@@ -220,13 +219,12 @@ module _ (p : Pair) (d k : ℕ) (f : Flags) (fit : IsFit p d k f) where
         under n w x l g b = let m = mul-le-mul_right w g in omega arith
 
   -- ---- the whole problem
-  known : Each Known (columns_of p d k f)
+  known : AllByRecursion Known (columns_of p d k f)
   known =
       each-++ Known (flat_map both_signs (unknowns_of p d)) (flat_map (multipliers_at p k) (duties_of f))
       (each-flat_map Known both_signs (unknowns_of p d) (each_all _ (unknowns_of p d) (λ u. (tt, (tt, tt)))))
       (each-flat_map Known (multipliers_at p k) (duties_of f)
-      (each_so (IsThere p) (λ o. Each Known (multipliers_at p k o)) (duties_of f)
-      (λ o h. each-map Known (Times o) (range_with_len 0 (length (products_at p k o))) (each_all _ (range_with_len 0 (length (products_at p k o))) (λ i. h)))
+      (each-weaker (IsThere p) (λ o. AllByRecursion Known (multipliers_at p k o)) (λ o h. each-map Known (Times o) (range_with_len 0 (length (products_at p k o))) (each_all _ (range_with_len 0 (length (products_at p k o))) (λ i. h))) (duties_of f)
       (each_from (IsThere p) (duties_of f) (recursion_from_All (IsThere p) (duties_of f) (duties_there p f fit.flags)))))
 
   abbrev equations : List Equation

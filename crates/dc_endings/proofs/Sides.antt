@@ -4,17 +4,16 @@ use Rattle.std.specs.List.{AllByRecursion}
 use Rattle.std.proofs.Common.{refl, sym, ◌∙◌, ap, subst, arith}
 use Rattle.std.proofs.lemmas.List.{length-take-le, get_or-take}
 use Rattle.std.proofs.lemmas.List.Sums.{sum_by-take-le}
+use Rattle.dc_math.specs.Members.{Among, head, tail, each_among}
 use Rattle.dc_math.specs.Rational.{of_ℤ}
 use Rattle.dc_syntax.specs.declared.tree.Side.{Side}
 use Rattle.dc_affine.specs.declared.atom.Atom.{Atom}
 use Rattle.dc_affine.specs.Atoms.{IsAtom, IsFullAtom, AllAtoms, AllCases}
-use Rattle.dc_graph.specs.Members.{Among, head, tail}
 use Rattle.dc_lp.specs.Problems.{whole_at}
 use Rattle.dc_system.specs.declared.edges.Edge.{Edge}
 use Rattle.dc_system.specs.declared.edges.System.{System}
 use Rattle.dc_system.specs.After.{row_after_of, atom_after}
 use Rattle.dc_system.specs.Shapes.{IsEdge, IsWellFormed}
-use Rattle.dc_system.proofs.Lists.{each_among}
 use Rattle.dc_cert.specs.declared.sparse.Sparse.{Sparse}
 use Rattle.dc_cert.specs.declared.certificate.Liveness.{Liveness}
 use Rattle.dc_cert.specs.declared.certificate.Liveness.TheVariants.{Dead, Live}

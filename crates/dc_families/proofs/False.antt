@@ -4,9 +4,9 @@ use Rattle.std.specs.Prelude.{◌≡◌, ◌⊎◌, ℕ, zero, suc, ◌+◌, ◌
 use Rattle.std.proofs.Common.{refl, sym, ◌∙◌, ap, subst, inl, inr, arith}
 use Rattle.std.proofs.lemmas.Bool.{and_parts}
 use Rattle.std.proofs.lemmas.Bool.Decides.{Decides-eqb}
+use Rattle.dc_math.specs.Members.{Among, head}
 use Rattle.dc_math.specs.WholeVectors.{dot_ℤ}
 use Rattle.dc_affine.specs.declared.atom.Atom.{Atom}
-use Rattle.dc_graph.specs.Members.{Among, head}
 use Rattle.dc_system.specs.declared.edges.Edge.{Edge}
 use Rattle.dc_system.specs.After.{affine_parts, atom_after}
 use Rattle.dc_system.proofs.AfterValues.{atom_after_scaled}

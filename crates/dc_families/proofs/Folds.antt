@@ -2,13 +2,12 @@
 use Rattle.std.specs.Prelude.{◌≡◌, ◌⊎◌, ℕ, ◌-◌, ◌<◌, eqb, List, [], ◌∷◌, Some}
 use Rattle.std.specs.List.{AllByRecursion}
 use Rattle.std.proofs.Common.{refl, sym, ◌∙◌, ap, subst, inl, inr}
-use Rattle.dc_graph.specs.Members.{Among, head}
+use Rattle.dc_math.specs.Members.{Among, head, each_among, among_each}
 use Rattle.dc_system.specs.declared.edges.Edge.{Edge}
 use Rattle.dc_system.specs.declared.edges.System.{System}
 use Rattle.dc_system.specs.Composed.{composed}
 use Rattle.dc_system.specs.Folded.{fold_at, folded}
 use Rattle.dc_system.specs.Shapes.{IsEdge, IsWellFormed, IsWithin as EndsWithin}
-use Rattle.dc_system.proofs.Lists.{each_among, among_each}
 use Rattle.dc_system.proofs.Filters.{InBoth, in_kept}
 use Rattle.dc_system.proofs.Crossings.{made_by}
 use Rattle.dc_system.proofs.Composite.{compose_edge}

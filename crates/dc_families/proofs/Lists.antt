@@ -3,54 +3,12 @@ use Rattle.std.specs.Prelude.{◌≡◌, ◌⊎◌, ℕ, zero, suc, ◌+◌, ◌
 use Rattle.std.specs.List.{range_with_len}
 use Rattle.std.proofs.Common.{refl, sym, ap₂, subst, inl, inr, arith}
 use Rattle.std.proofs.lemmas.Bool.{cases_lt}
+use Rattle.dc_math.specs.Members.{Among, head, tail, among-left, among-right, among-++}
 use Rattle.dc_affine.specs.declared.atom.Atom.{Atom}
 use Rattle.dc_affine.specs.Atoms.{AllAtoms}
-use Rattle.dc_graph.specs.Members.{Among, head, tail}
-use Rattle.dc_graph.proofs.Lists.{among-left, among-right, among-++}
 
 pub differ : {A : Type 0} → true ≡ false → A
 differ e = absurd (cc)
-
-pub none_among : {A X : Type 0} {x : A} → Among x [] → X
-none_among m = elim m [ ]
-
-pub among_cons : {A : Type 0} (x y : A) (xs : List A) → Among x (y ∷ xs) → (x ≡ y) ⊎ Among x xs
-among_cons x _ xs head = inl refl
-among_cons x y xs (tail m) = inr m
-
-pub among_flat : {A B : Type 0} (f : A → List B) (x : A) (y : B) (xs : List A) → Among x xs → Among y (f x) → Among y (flat_map f xs)
-among_flat f x y [] k m = elim k [ ]
-among_flat f x y (z ∷ xs) head m = among-left (flat_map f xs) m
-among_flat f x y (z ∷ xs) (tail k) m = among-right (f z) (among_flat f x y xs k m)
-
-pub among_flat_back : {A B : Type 0} (f : A → List B) (y : B) (xs : List A) → Among y (flat_map f xs) → (x : A) × Among x xs × Among y (f x)
-among_flat_back f y [] m = elim m [ ]
-among_flat_back f y (z ∷ xs) m = elim (among-++ (f z) m) [
-  | inl k ↦ (z, head, k)
-  | inr k ↦ let r = among_flat_back f y xs k in (r.0, tail r.1, r.2)
-]
-
-pub among_range : (k a n : ℕ) → a ≤ k → k < a + n → Among k (range_with_len a n)
-among_range k a zero h l = absurd (omega arith)
-among_range k a (suc n) h l = elim (cases_lt a k) [
-  | inl m ↦ tail (among_range k (a + 1) n (omega arith) (omega arith))
-  | inr m ↦ let s : a ≡ k = omega arith in subst (λ i. Among i (a ∷ range_with_len (a + 1) n)) s head
-]
-
-pub among_range_back : (k a n : ℕ) → Among k (range_with_len a n) → (a ≤ k) × (k < a + n)
-among_range_back k a zero m = elim m [ ]
-among_range_back k a (suc n) head = (omega arith, omega arith)
-among_range_back k a (suc n) (tail m) = let r = among_range_back k (a + 1) n m in let p = r.0 in let q = r.1 in (omega arith, omega arith)
-
-pub among_at : {A : Type 0} (x d : A) (xs : List A) → Among x xs → (i : ℕ) × (i < length xs) × (slice_index_or xs i d ≡ x)
-among_at x d [] m = elim m [ ]
-among_at x d (y ∷ xs) head = (0, omega arith, refl)
-among_at x d (y ∷ xs) (tail m) = let r = among_at x d xs m in let l = r.1 in (suc r.0, omega arith, r.2)
-
-pub at_among : {A : Type 0} (d : A) (xs : List A) (i : ℕ) → i < length xs → Among (slice_index_or xs i d) xs
-at_among d [] i l = absurd (omega arith)
-at_among d (x ∷ xs) zero l = head
-at_among d (x ∷ xs) (suc i) l = tail (at_among d xs i (omega arith))
 
 pub past_none : {A : Type 0} (xs : List A) (i : ℕ) (d : A) → length xs ≤ i → slice_index_or xs i d ≡ d
 past_none [] i d h = refl

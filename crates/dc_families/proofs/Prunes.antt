@@ -4,11 +4,9 @@ use Rattle.std.specs.List.{range_with_len}
 use Rattle.std.proofs.Common.{refl, sym, ◌∙◌, ap, ap₂, subst, inl, inr, arith, append-nil}
 use Rattle.std.proofs.lemmas.Bool.{cases_lt}
 use Rattle.std.proofs.lemmas.List.FromFn.{length-map-range_with_len, get_or-map-range_with_len}
+use Rattle.dc_math.specs.Members.{Among, head, tail, each_among, none_among, among_cons, among-left, among-right, among-++, among_map, mapped_among}
 use Rattle.dc_affine.specs.declared.atom.Atom.{Atom}
-use Rattle.dc_graph.specs.Members.{Among, head, tail}
-use Rattle.dc_graph.proofs.Lists.{among-left, among-right, among-++}
 use Rattle.dc_system.specs.Shapes.{IsWithin as EndsWithin}
-use Rattle.dc_system.proofs.Lists.{each_among, among_map, mapped_among}
 use Rattle.dc_points.specs.Points.{Point, MeetsAt, MeetsAll, Entails}
 use Rattle.dc_rows.specs.declared.kinds.Candidates.{Candidates}
 use Rattle.dc_rows.specs.Candidate.{AreCandidates}
@@ -18,7 +16,7 @@ use Rattle.dc_families.specs.Rounds.{MeetsFamily, IsInductive, IsWithin, IsGreat
 use Rattle.dc_families.specs.Printed.{Question, atoms_of, Pruned, done, drops, keeps, IsPrinted, ArePrinted}
 use Rattle.dc_families.specs.Laws.{OnePrinted, HasPrinted, PrintedSayLists, PrintedAreInductive}
 use Rattle.dc_families.proofs.Decided.{entailment_is_decided}
-use Rattle.dc_families.proofs.Lists.{differ, none_among, among_cons, all_atoms, each_atom, same_lists, past_none}
+use Rattle.dc_families.proofs.Lists.{differ, all_atoms, each_atom, same_lists, past_none}
 use Rattle.dc_families.proofs.Tests.{has_among, among_has}
 use Rattle.dc_families.proofs.Upward.{least_is, lists_are_families}
 
@@ -114,7 +112,7 @@ module _ (c : Candidates) (J : Family) (l : ℕ) where
   ]
   pruned_some {back = back} (keeps {front = f} t e n rest) r m = elim (among-++ f (pruned_some rest r m)) [
     | inl k ↦ among-left back (subst (Among r) (sym e) (among-left (t ∷ []) k))
-    | inr k ↦ elim (among_cons r t back k) [
+    | inr k ↦ elim (among_cons k) [
       | inl s ↦ among-left back (subst (Among r) (sym e) (among-right f (subst (λ x. Among x (t ∷ [])) (sym s) head)))
       | inr i ↦ among-right _ i
     ]
@@ -137,7 +135,7 @@ module _ (c : Candidates) (J : Family) (l : ℕ) where
         elim (among-++ rows m) [
           | inl i ↦ elim (among-++ f (subst (Among r) e i)) [
             | inl j ↦ k r (among-left back j)
-            | inr j ↦ elim (among_cons r t [] j) [ inl s ↦ subst (λ x. MeetsAt p (atom x)) (sym s) (n p (met_list _ k)) | inr z ↦ none_among z ]
+            | inr j ↦ elim (among_cons j) [ inl s ↦ subst (λ x. MeetsAt p (atom x)) (sym s) (n p (met_list _ k)) | inr z ↦ none_among z ]
           ]
           | inr i ↦ k r (among-right f i)
         ]
@@ -146,7 +144,7 @@ module _ (c : Candidates) (J : Family) (l : ℕ) where
         elim (among-++ rows m) [
           | inl i ↦ elim (among-++ f (subst (Among r) e i)) [
             | inl j ↦ k r (among-left (t ∷ back) j)
-            | inr j ↦ elim (among_cons r t [] j) [ inl s ↦ k r (among-right f (subst (λ x. Among x (t ∷ back)) (sym s) head)) | inr z ↦ none_among z ]
+            | inr j ↦ elim (among_cons j) [ inl s ↦ k r (among-right f (subst (λ x. Among x (t ∷ back)) (sym s) head)) | inr z ↦ none_among z ]
           ]
           | inr i ↦ k r (among-right f (tail i))
         ]
@@ -168,7 +166,7 @@ module _ (c : Candidates) (J : Family) (l : ℕ) where
   printed_there n printed asked h a m = by (J l (never n)) refl
     where
       by : (b : Bool) → J l (never n) ≡ b → J l a ≡ true
-      by true e = elim (among_cons a (never n) [] (subst (Among a) (h.dead e).0 m)) [ inl s ↦ ap (J l) s ∙ e | inr z ↦ none_among z ]
+      by true e = elim (among_cons (subst (Among a) (h.dead e).0 m)) [ inl s ↦ ap (J l) s ∙ e | inr z ↦ none_among z ]
       by false e =
           let x = h.other e in
           let f = mapped_among atom x.left (subst (Among a) x.is m) in

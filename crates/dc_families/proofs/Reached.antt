@@ -1,19 +1,18 @@
 -- What a path reaches from an allowed input meets an inductive family.
 use Rattle.std.specs.Prelude.{◌≡◌, ℕ, zero, suc, ◌-◌, ◌≤◌, Bool, true, false, ◌||◌, List, [], ◌∷◌, ◌++◌, take, length, replicate, ℤ, pos, ◌+ℤ◌, ◌*ℤ◌, int_le}
 use Rattle.std.proofs.Common.{refl, sym, ◌∙◌, ap, subst, arith, length-append}
+use Rattle.dc_math.specs.Members.{Among, head, tail, each_among}
 use Rattle.dc_math.specs.WholeVectors.{dot_ℤ}
 use Rattle.dc_math.specs.WholeRing.{ring, reads, read_nat, same_form}
 use Rattle.dc_syntax.specs.Value.{State}
 use Rattle.dc_affine.specs.declared.atom.Atom.{Atom}
 use Rattle.dc_affine.specs.Atoms.{holds_at, all_hold, some_hold, Allowed}
-use Rattle.dc_graph.specs.Members.{Among, head, tail}
 use Rattle.dc_system.specs.declared.edges.Edge.{Edge}
 use Rattle.dc_system.specs.After.{atom_after}
 use Rattle.dc_system.specs.Shapes.{IsEdge}
 use Rattle.dc_system.specs.Paths.{at, Step, Path, here, along}
 use Rattle.dc_system.proofs.AfterValues.{atom_after_value}
 use Rattle.dc_system.proofs.Crossings.{step_length}
-use Rattle.dc_system.proofs.Lists.{each_among}
 use Rattle.dc_points.specs.Points.{Point, whole_point}
 use Rattle.dc_points.proofs.Whole.{meets-holds_at, holds_at-meets, whole_points_meet}
 use Rattle.dc_rows.specs.declared.kinds.Candidates.{Candidates}

@@ -3,14 +3,13 @@ use Rattle.std.specs.Prelude.{◌≡◌, ℕ, ◌<◌, Bool, true, false, ◌||�
 use Rattle.std.proofs.Common.{refl, sym, ap₂, subst, inl, inr, ◌⊎◌}
 use Rattle.std.proofs.lemmas.Bool.{and_parts, and_from, ltb-true, lt-ltb}
 use Rattle.std.proofs.lemmas.Bool.Decides.{Decides-int_eq}
+use Rattle.dc_math.specs.Members.{Among, head, tail, among_cons, among_map, mapped_among, among_flat, among_flat_back}
 use Rattle.dc_affine.specs.declared.atom.Atom.{Atom}
-use Rattle.dc_graph.specs.Members.{Among, head, tail}
 use Rattle.dc_rows.specs.declared.kinds.Candidates.{Candidates}
 use Rattle.dc_rows.specs.Rows.{Row, same_row}
 use Rattle.dc_families.specs.Families.{never, bounded, candidate_atoms, same_atom, has_atom, everything}
-use Rattle.dc_system.proofs.Lists.{among_map, mapped_among}
 use Rattle.dc_families.specs.Graphs.{Graph}
-use Rattle.dc_families.proofs.Lists.{differ, among_cons, among_flat, among_flat_back}
+use Rattle.dc_families.proofs.Lists.{differ}
 
 same_row_is : (xs ys : Row) → same_row xs ys ≡ true → xs ≡ ys
 same_row_is [] [] e = refl
@@ -55,7 +54,7 @@ pub data IsOne (n : ℕ) (c : Candidates) (a : Atom) : Type 0 where
   is_bounded : (r : Row) (b : ℤ) → Among r c.rows → Among b c.bounds → a ≡ bounded r b → IsOne n c a
 
 pub candidate_is : (n : ℕ) (c : Candidates) (a : Atom) → Among a (candidate_atoms n c) → IsOne n c a
-candidate_is n c a m = elim (among_cons a (never n) _ m) [
+candidate_is n c a m = elim (among_cons m) [
   | inl e ↦ is_never e
   | inr k ↦ let f = among_flat_back (λ r. map (bounded r) c.bounds) a c.rows k in let g = mapped_among (bounded f.0) c.bounds f.2 in is_bounded f.0 g.of f.1 g.among g.is
 ]

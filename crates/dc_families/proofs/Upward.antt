@@ -2,13 +2,12 @@
 use Rattle.std.specs.Prelude.{◌≡◌, ℕ, zero, suc, ◌+◌, ◌<◌, Bool, true, false, cond, is_some, List, [], ◌∷◌, map, find, length, replicate, slice_index_or, ℤ, pos, negsuc, ◌+ℤ◌, ◌*ℤ◌, ◌≤ℤ◌, ◌<ℤ◌, Option, Some, None}
 use Rattle.std.proofs.Common.{refl, sym, ◌∙◌, ap, subst, inl, inr, arith}
 use Rattle.std.proofs.lemmas.Int.{ints}
+use Rattle.dc_math.specs.Members.{Among, among_cons, among_map, mapped_among, among_range, among_range_back, among_at}
 use Rattle.dc_math.specs.Integers.{≤ℤ-*ℤ_right}
 use Rattle.dc_math.specs.WholeVectors.{dot_ℤ}
 use Rattle.dc_affine.specs.declared.atom.Atom.{Atom}
-use Rattle.dc_graph.specs.Members.{Among}
 use Rattle.dc_system.specs.declared.edges.Edge.{Edge}
 use Rattle.dc_system.specs.After.{atom_after}
-use Rattle.dc_system.proofs.Lists.{among_map, mapped_among}
 use Rattle.dc_system.proofs.Filters.{kept_in, in_kept}
 use Rattle.dc_points.specs.Points.{Point, MeetsAt, MeetsAll}
 use Rattle.dc_rows.specs.declared.kinds.Candidates.{Candidates}
@@ -20,7 +19,7 @@ use Rattle.dc_families.specs.Graphs.{Graph}
 use Rattle.dc_families.specs.Families.{Family, never, bounded, least_in, kept_rows, or_zero, least_atom, atoms_at}
 use Rattle.dc_families.specs.Rounds.{MeetsFamily, IsGiven, HasCandidates}
 use Rattle.dc_families.specs.Laws.{EverythingIsUpward, RoundsAreUpward, ListsAreFamilies}
-use Rattle.dc_families.proofs.Lists.{differ, among_range, among_range_back, among_at, among_cons, all_atoms, each_atom, find_is}
+use Rattle.dc_families.proofs.Lists.{differ, all_atoms, each_atom, find_is}
 use Rattle.dc_families.proofs.Decided.{dot-none}
 use Rattle.dc_families.proofs.Tests.{IsOne, is_never, is_bounded, candidate_is, bounded_candidate, in_everything, everything_is}
 
@@ -72,14 +71,14 @@ first_least p (y ∷ bs) h x b f m t =
     by : (find p bs ≡ Some x → Among b bs → p b ≡ true → x ≤ℤ b) → (v : Bool) → p y ≡ v → cond v (Some y) (find p bs) ≡ Some x → x ≤ℤ b
     by g true e f =
         let s : y ≡ x = cc in
-        elim (among_cons b y bs m) [
+        elim (among_cons m) [
           | inl q ↦ let q' : x ≡ b = sym s ∙ sym q in subst (λ z. x ≤ℤ z) q' (same_least x)
           | inr n ↦
               let r = among_at b (pos 0) bs n in
               let v = h 0 (suc r.0) (omega arith) (let k = r.1 in omega arith) in
               subst (λ z. z ≤ℤ b) s (subst (λ z. y ≤ℤ z) r.2 (below_least _ _ v))
         ]
-    by g false e f = elim (among_cons b y bs m) [
+    by g false e f = elim (among_cons m) [
       | inl q ↦ differ (sym t ∙ ap p q ∙ e)
       | inr n ↦ g f n t
     ]
@@ -90,7 +89,7 @@ some_found p (y ∷ bs) b m t = by (some_found p bs b) (p y) refl
   where
     by : (Among b bs → p b ≡ true → (x : ℤ) × (find p bs ≡ Some x)) → (v : Bool) → p y ≡ v → (x : ℤ) × (cond v (Some y) (find p bs) ≡ Some x)
     by g true e = (y, refl)
-    by g false e = elim (among_cons b y bs m) [ inl q ↦ differ (sym t ∙ ap p q ∙ e) | inr n ↦ g n t ]
+    by g false e = elim (among_cons m) [ inl q ↦ differ (sym t ∙ ap p q ∙ e) | inr n ↦ g n t ]
 
 -- ---- false is met nowhere
 pub never_met : (n : ℕ) (p : Point) → MeetsAt p (never n) → ⊥

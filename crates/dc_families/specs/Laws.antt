@@ -1,9 +1,9 @@
 -- The laws of families.
 use Rattle.std.specs.Prelude.{◌≡◌, ◌⊎◌, ◌↔◌, ℕ, ◌-◌, ◌<◌, true, List, ◌++◌, length, replicate, [], slice_index_or, ℤ, pos, ◌≤ℤ◌, Some}
+use Rattle.dc_math.specs.Members.{Among}
 use Rattle.dc_syntax.specs.Value.{State}
 use Rattle.dc_affine.specs.declared.atom.Atom.{Atom}
 use Rattle.dc_affine.specs.Atoms.{Allowed, holds_at}
-use Rattle.dc_graph.specs.Members.{Among}
 use Rattle.dc_system.specs.declared.edges.Edge.{Edge}
 use Rattle.dc_system.specs.declared.edges.System.{System}
 use Rattle.dc_system.specs.Folded.{fold_at, folded}

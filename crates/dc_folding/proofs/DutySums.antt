@@ -1,6 +1,6 @@
 -- A duty is met exactly where its left side is a sum of its products, at each point of its places.
 use Rattle.std.specs.Prelude.{◌≡◌, ◌⊎◌, ℕ, zero, suc, ◌+◌, ◌≤◌, List, [], ◌∷◌, map, length, ℤ, pos}
-use Rattle.std.specs.List.{range_with_len}
+use Rattle.std.specs.List.{range_with_len, AllByRecursion}
 use Rattle.std.proofs.Common.{refl, sym, ap, ap₂, ◌∙◌, subst, arith, inl, inr}
 use Rattle.std.proofs.lemmas.Bool.{cases_lt}
 use Rattle.std.proofs.lemmas.List.{length-map}
@@ -9,7 +9,7 @@ use Rattle.dc_math.specs.RationalRing.{ring, reads, read_nat, same_form}
 use Rattle.dc_math.specs.Signs.{zero_non_negative}
 use Rattle.dc_math.specs.Sums.{at}
 use Rattle.dc_math.specs.Vectors.{dot, dot-nil, dot_comm}
-use Rattle.dc_math.specs.Cones.{Each, Cone}
+use Rattle.dc_math.specs.Cones.{Cone}
 use Rattle.dc_lp.specs.Tables.{made}
 use Rattle.dc_affine.specs.declared.atom.Atom.{Atom}
 use Rattle.dc_handelman.specs.Choices.{choices_of}
@@ -35,7 +35,7 @@ abbrev pub IsSum : ℕ → List Atom → ℕ → (List ℤ → ℚ) → Type 0
 IsSum n hyps k g = Cone (products (atom_values (place n) hyps) k) (λ x. g x.0)
 
 -- ---- factors by index
-each_at : (xs : List ℚ) (i : ℕ) → Each NonNegative xs → NonNegative (at xs i)
+each_at : (xs : List ℚ) (i : ℕ) → AllByRecursion NonNegative xs → NonNegative (at xs i)
 each_at [] i h = zero_non_negative
 each_at (x ∷ xs) zero h = h.0
 each_at (x ∷ xs) (suc i) h = each_at xs i h.1

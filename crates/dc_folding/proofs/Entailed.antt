@@ -1,13 +1,13 @@
 -- What a list of atoms entails that isn't dead is, at each point, a sum of its atoms and of 1 with factors of at least 0.
 use Rattle.std.specs.Prelude.{◌≡◌, ℕ, zero, suc, ◌+◌, ◌<◌, ◌≤◌, max, List, [], ◌∷◌, map, length, slice_index_or, ℤ, pos}
-use Rattle.std.specs.List.{range_with_len}
+use Rattle.std.specs.List.{range_with_len, AllByRecursion}
 use Rattle.std.proofs.Common.{refl, sym, ap, ap₂, ◌∙◌, arith}
 use Rattle.dc_math.specs.WholeVectors.{dot_ℤ}
 use Rattle.dc_math.specs.Rational.{ℚ, ◌+ℚ◌, ◌-ℚ◌, ◌*ℚ◌, of_ℤ, of_ℤ-+ℤ, NonNegative, ≤ℚ-sub}
 use Rattle.dc_math.specs.RationalRing.{ring, reads, read_nat, same_form}
 use Rattle.dc_math.specs.Sums.{sum_ℚ, sum_ℚ_none, sum_ℚ_first, sum_ℚ_same, sum_ℚ-+ℚ, sum_ℚ-*ℚ, sum_ℚ_swap}
 use Rattle.dc_math.specs.Vectors.{dot}
-use Rattle.dc_math.specs.Cones.{Each, values_at, Cone}
+use Rattle.dc_math.specs.Cones.{values_at, Cone}
 use Rattle.dc_lp.specs.Tables.{made}
 use Rattle.dc_affine.specs.declared.atom.Atom.{Atom}
 use Rattle.dc_affine.specs.Atoms.{atom_value}
@@ -28,7 +28,7 @@ all_over : (n : ℕ) (hyps : List Atom) → widest hyps ≤ n → AreOver n hyps
 all_over n [] h = tt
 all_over n (a ∷ hyps) h = (omega arith, all_over n hyps (omega arith))
 
-pub each_made : (f : ℕ → ℚ) (a n : ℕ) → ((i : ℕ) → i < a + n → NonNegative (f i)) → Each NonNegative (map f (range_with_len a n))
+pub each_made : (f : ℕ → ℚ) (a n : ℕ) → ((i : ℕ) → i < a + n → NonNegative (f i)) → AllByRecursion NonNegative (map f (range_with_len a n))
 each_made f a zero h = tt
 each_made f a (suc n) h = (h a (omega arith), each_made f (a + 1) n (λ i l. h i (omega arith)))
 

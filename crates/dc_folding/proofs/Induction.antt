@@ -2,14 +2,13 @@
 use Rattle.std.specs.Prelude.{◌≡◌, ◌⊎◌, ℕ, ◌+◌, ◌-◌, ◌≤◌, Bool, true, false, eqb, if◌then◌else◌, List, ◌++◌, length, pos, ◌≤ℤ◌}
 use Rattle.std.proofs.Common.{refl, sym, ap, ◌∙◌, subst, arith, inl, inr}
 use Rattle.std.proofs.lemmas.Bool.{eqb-false, ne_eqb}
+use Rattle.dc_math.specs.Members.{Among, each_among}
 use Rattle.dc_affine.specs.declared.atom.Atom.{Atom}
-use Rattle.dc_graph.specs.Members.{Among}
 use Rattle.dc_system.specs.declared.edges.Edge.{Edge}
 use Rattle.dc_system.specs.declared.edges.System.{System}
 use Rattle.dc_system.specs.After.{is_affine_after, atom_after}
 use Rattle.dc_system.specs.Composed.{after, atoms_at}
 use Rattle.dc_system.specs.Shapes.{IsEdge, IsWellFormed}
-use Rattle.dc_system.proofs.Lists.{each_among}
 use Rattle.dc_system.proofs.Crossings.{Made, made_by}
 use Rattle.dc_system.proofs.Composite.{compose_edge}
 use Rattle.dc_system.proofs.Folds.{Joined, joined_at, was, first_in, second_in, first_to, second_from, c_from, c_to}

@@ -3,6 +3,7 @@ use Rattle.std.specs.Prelude.{◌≡◌, ℕ, ◌+◌, ◌-◌, ◌<◌, Bool, t
 use Rattle.std.proofs.Common.{refl, sym, ap, ap₂, ◌∙◌, subst, arith, inl, inr}
 use Rattle.std.proofs.lemmas.Bool.{cases_lt, eqb-true, eqb-false}
 use Rattle.std.proofs.lemmas.List.FromFn.{length-map-range_with_len, get_or-map-range_with_len}
+use Rattle.dc_math.specs.Members.{Among, head, tail, among_cons, Mapped, mapped_among, among_at, at_among}
 use Rattle.dc_math.specs.Rational.{ℚ, ◌+ℚ◌, ◌-ℚ◌, of_ℤ}
 use Rattle.dc_math.specs.Cones.{cone_same}
 use Rattle.dc_lp.specs.Tables.{made}
@@ -10,19 +11,17 @@ use Rattle.dc_syntax.specs.declared.tree.Side.{Side}
 use Rattle.dc_syntax.specs.declared.tree.Side.TheVariants.{New, Old}
 use Rattle.dc_poly.specs.Sums.{values}
 use Rattle.dc_affine.specs.declared.atom.Atom.{Atom}
-use Rattle.dc_graph.specs.Members.{Among, head, tail}
 use Rattle.dc_system.specs.declared.edges.Edge.{Edge}
 use Rattle.dc_system.specs.declared.edges.System.{System}
 use Rattle.dc_system.specs.Folded.{number_in, renumbered}
 use Rattle.dc_system.specs.Spots.{Net}
 use Rattle.dc_system.proofs.Filters.{number_rises, number_same, number_none, last_number}
 use Rattle.dc_system.specs.After.{is_affine_after, atom_after}
-use Rattle.dc_system.proofs.Lists.{Mapped, mapped_among}
 use Rattle.dc_points.specs.Points.{Point, MeetsAt, MeetsAll, IsDead}
 use Rattle.dc_families.specs.Graphs.{graph_of}
 use Rattle.dc_families.specs.Families.{has_atom, family_of}
 use Rattle.dc_families.specs.Rounds.{MeetsFamily, IsInductive}
-use Rattle.dc_families.proofs.Lists.{differ, past_none, among_cons, among_at, at_among}
+use Rattle.dc_families.proofs.Lists.{differ, past_none}
 use Rattle.dc_claims.specs.declared.duty.Duty.{Duty}
 use Rattle.dc_claims.specs.declared.duty.Duty.TheVariants.{Along, AtExit, AtEntry}
 use Rattle.dc_claims.specs.Duties.{Pair, no_edge, edge_at, IsOwed}
@@ -53,7 +52,7 @@ module _ (s : System) (left : List ℕ) (net : Net s.vars (s.locs - 1) left s.ed
     where
       by : (Among k ks → old_place ks (number_in left k) ≡ k) → (b : Bool) → eqb (number_in left j) (number_in left k) ≡ b → Among k (j ∷ ks) → (if b then j else old_place ks (number_in left k)) ≡ k
       by g true q m = number_same left j k (f j head) (f k m) (eqb-true _ _ q)
-      by g false q m = elim (among_cons k j ks m) [
+      by g false q m = elim (among_cons m) [
         | inl e ↦ absurd (eqb-false _ _ q (ap (number_in left) (sym e)))
         | inr n ↦ g n
       ]
@@ -89,7 +88,7 @@ module _ (s : System) (left : List ℕ) (net : Net s.vars (s.locs - 1) left s.ed
       where
         by : (Among k ks → atoms_for ks (number_in left k) ≡ slice_index_or lists k []) → (b : Bool) → eqb (number_in left j) (number_in left k) ≡ b → Among k (j ∷ ks) → (if b then slice_index_or lists j [] else atoms_for ks (number_in left k)) ≡ slice_index_or lists k []
         by g true q m = ap (λ i. slice_index_or lists i []) (number_same left j k (f j head) (f k m) (eqb-true _ _ q))
-        by g false q m = elim (among_cons k j ks m) [
+        by g false q m = elim (among_cons m) [
           | inl e ↦ absurd (eqb-false _ _ q (ap (number_in left) (sym e)))
           | inr n ↦ g n
         ]

@@ -5,10 +5,11 @@ use Rattle.std.specs.List.{AllByRecursion}
 use Rattle.std.proofs.Common.{refl, sym, ap, ap₂, ◌∙◌, subst, arith, inl, inr, length-append}
 use Rattle.std.proofs.lemmas.List.{length-map, get_or-set_other}
 use Rattle.std.proofs.lemmas.List.Elements.{recursion_from_All}
+use Rattle.dc_math.specs.Members.{Among, each-map, among_at, at_among}
 use Rattle.dc_math.specs.Rational.{ℚ, ◌+ℚ◌, ◌-ℚ◌, of_ℤ, of_ℤ-+ℤ}
 use Rattle.dc_math.specs.RationalRing.{ring, reads, same_form}
 use Rattle.dc_math.specs.Vectors.{dot}
-use Rattle.dc_math.specs.Cones.{Each, each_mapped, Cone, cone_add, cone_same}
+use Rattle.dc_math.specs.Cones.{Cone, cone_add, cone_same}
 use Rattle.dc_lp.specs.Tables.{made as row_of}
 use Rattle.dc_syntax.specs.declared.tree.Side.TheVariants.{New, Old}
 use Rattle.dc_poly.specs.Terms.{Exponents, mono_value, power, value}
@@ -17,7 +18,6 @@ use Rattle.dc_poly.specs.Monomials.{IsWithin, monomials_of}
 use Rattle.dc_poly.proofs.Values.{value-plus, value-composed}
 use Rattle.dc_affine.specs.declared.atom.Atom.{Atom}
 use Rattle.dc_affine.specs.Atoms.{atom_value}
-use Rattle.dc_graph.specs.Members.{Among}
 use Rattle.dc_system.specs.declared.edges.Edge.{Edge}
 use Rattle.dc_system.specs.declared.edges.System.{System}
 use Rattle.dc_system.specs.Edges.{chosen}
@@ -32,7 +32,7 @@ use Rattle.dc_points.specs.Points.{Point, MeetsAt, MeetsAll, IsDead}
 use Rattle.dc_families.specs.Graphs.{graph_of}
 use Rattle.dc_families.specs.Families.{family_of}
 use Rattle.dc_families.specs.Rounds.{MeetsFamily, IsOver, IsInductive}
-use Rattle.dc_families.proofs.Lists.{among_at, at_among, all_atoms, each_atom, all_left, all_right, all_both}
+use Rattle.dc_families.proofs.Lists.{all_atoms, each_atom, all_left, all_right, all_both}
 use Rattle.dc_families.proofs.Tests.{has_among, among_has}
 use Rattle.dc_claims.specs.declared.duty.Duty.{Duty}
 use Rattle.dc_claims.specs.declared.duty.Duty.TheVariants.{Along, AtExit, AtEntry}
@@ -153,7 +153,7 @@ module _ (s : System) (l : ℕ) (c : Edge) (w : IsWellFormed s) (h : IsFoldable 
         (entailed_sum (place (n + 1)) both (atom_at (n + 1) a (after n first)) live (λ p m. moved_meets n first p a (g p m)))
 
     each_after : ¬ IsDead both → (as' : List Atom) → ((p : Point) → MeetsAll p both → MeetsAll (moved n first p) as')
-        → Each (λ a. Cone (one ∷ atom_values (place (n + 1)) both) (λ y. of_ℤ (atom_value a (next y.0)))) as'
+        → AllByRecursion (λ a. Cone (one ∷ atom_values (place (n + 1)) both) (λ y. of_ℤ (atom_value a (next y.0)))) as'
     each_after live [] g = tt
     each_after live (a ∷ rest) g = (after_sum live a (λ p m. (g p m).0), each_after live rest (λ p m. (g p m).1))
 
@@ -168,7 +168,7 @@ module _ (s : System) (l : ℕ) (c : Edge) (w : IsWellFormed s) (h : IsFoldable 
       unfolding move
       second_sum live b =
           products_after move (atom_values (place (n + 1)) both) (atom_values (place (n + 1)) (atoms second))
-          (each_mapped (λ f. Cone (one ∷ atom_values (place (n + 1)) both) (λ y. f (move y))) (λ a x. of_ℤ (atom_value a (place (n + 1) x))) (atoms second)
+          (each-map (λ f. Cone (one ∷ atom_values (place (n + 1)) both) (λ y. f (move y))) (λ a x. of_ℤ (atom_value a (place (n + 1) x))) (atoms second)
           (each_after live (atoms second) gives_second))
           k (λ x. left second x.0) b
 

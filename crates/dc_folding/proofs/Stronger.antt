@@ -1,7 +1,9 @@
 -- What is certified over some atoms is certified over stronger ones.
 use Rattle.std.specs.Prelude.{ℕ, List, [], ◌∷◌, ℤ}
+use Rattle.std.specs.List.{AllByRecursion}
+use Rattle.dc_math.specs.Members.{each-weaker, each-map}
 use Rattle.dc_math.specs.Rational.{ℚ}
-use Rattle.dc_math.specs.Cones.{Each, each_map, each_mapped, Cone}
+use Rattle.dc_math.specs.Cones.{Cone}
 use Rattle.dc_syntax.specs.declared.tree.Side.{Side}
 use Rattle.dc_affine.specs.declared.atom.Atom.{Atom}
 use Rattle.dc_points.specs.Points.{Point, MeetsAt, MeetsAll, Entails, IsDead}
@@ -26,14 +28,14 @@ Gives h j = (x : Point) → MeetsAll x h → MeetsAll x j
 pub gives_dead : (h j : List Atom) → Gives h j → IsDead j → IsDead h
 gives_dead h j g d x m = d x (g x m)
 
-each_given : (h j : List Atom) → Gives h j → Each (Entails h) j
+each_given : (h j : List Atom) → Gives h j → AllByRecursion (Entails h) j
 each_given h [] g = tt
 each_given h (a ∷ j) g = ((λ x m. (g x m).0), each_given h j (λ x m. (g x m).1))
 
 pub stronger_sum : (n : ℕ) (h j : List Atom) (k : ℕ) (g : List ℤ → ℚ) → ¬ IsDead h → Gives h j → IsSum n j k g → IsSum n h k g
 stronger_sum n h j k g live e c =
     products_of_sums (atom_values (place n) h) (atom_values (place n) j)
-    (each_mapped (Cone (one ∷ atom_values (place n) h)) _ j (each_map (Entails h) _ (λ a w. entailed_sum (place n) h a live w) j (each_given h j e)))
+    (each-map (Cone (one ∷ atom_values (place n) h)) _ j (each-weaker (Entails h) _ (λ a w. entailed_sum (place n) h a live w) j (each_given h j e)))
     k (λ x. g x.0) c
 
 module _ (p : Pair) (new old : List (List Atom)) (s : AreStronger new old p) where

@@ -2,11 +2,10 @@
 use Rattle.std.specs.Prelude.{◌≡◌, ℕ, ◌-◌, ◌<◌, Bool, true, false, List, [], ◌∷◌, ◌++◌, length, slice_index_or}
 use Rattle.std.proofs.Common.{refl, sym, ap, ◌∙◌, subst, arith, inl, inr, append-nil}
 use Rattle.std.proofs.lemmas.Bool.{cases_lt}
+use Rattle.dc_math.specs.Members.{Among, head, none_among, among_cons, among-left, among-right, among-++, mapped_among}
 use Rattle.dc_math.specs.Rational.{ℚ}
 use Rattle.dc_syntax.specs.declared.tree.Side.TheVariants.{New, Old}
 use Rattle.dc_affine.specs.declared.atom.Atom.{Atom}
-use Rattle.dc_graph.specs.Members.{Among, head}
-use Rattle.dc_graph.proofs.Lists.{among-left, among-right, among-++}
 use Rattle.dc_system.specs.declared.edges.Edge.{Edge}
 use Rattle.dc_system.specs.declared.edges.System.{System}
 use Rattle.dc_system.specs.Folded.{IsFolded, numbers_below}
@@ -14,7 +13,6 @@ use Rattle.dc_system.specs.Shapes.{IsWellFormed}
 use Rattle.dc_system.specs.Spots.{Net}
 use Rattle.dc_system.proofs.EveryFold.{every_folded}
 use Rattle.dc_system.proofs.OneFold.{one_folded}
-use Rattle.dc_system.proofs.Lists.{mapped_among}
 use Rattle.dc_system.proofs.Renumbered.{foldings_keep, starts}
 use Rattle.dc_points.specs.Points.{Point, MeetsAt, MeetsAll}
 use Rattle.dc_rows.specs.declared.kinds.Candidates.{Candidates}
@@ -26,7 +24,7 @@ use Rattle.dc_families.specs.Rounds.{IsOver, IsInductive, IsWithin, HasCandidate
 use Rattle.dc_families.proofs.Fixed.{has_greatest}
 use Rattle.dc_families.proofs.Folds.{systems_are_graphs}
 use Rattle.dc_families.proofs.Greatest.{one_greatest}
-use Rattle.dc_families.proofs.Lists.{differ, none_among, among_cons, all_atoms, past_none}
+use Rattle.dc_families.proofs.Lists.{differ, all_atoms, past_none}
 use Rattle.dc_families.proofs.Prunes.{has_printed, one_printed_each, printed_say_lists, printed_are_inductive}
 use Rattle.dc_families.proofs.Reached.{candidates_over}
 use Rattle.dc_families.proofs.Tests.{has_among, among_has, in_everything, everything_is}
@@ -50,7 +48,7 @@ module _ (c : Candidates) (J : Family) (l : ℕ) where
   ]
   still_rows {back = back} (keeps {front = f} t e n rest) r m = elim (among-++ f (still_rows rest r m)) [
     | inl k ↦ among-left back (subst (Among r) (sym e) (among-left (t ∷ []) k))
-    | inr k ↦ elim (among_cons r t back k) [
+    | inr k ↦ elim (among_cons k) [
       | inl s ↦ among-left back (subst (Among r) (sym e) (among-right f (subst (λ x. Among x (t ∷ [])) (sym s) head)))
       | inr i ↦ among-right _ i
     ]
@@ -60,7 +58,7 @@ module _ (c : Candidates) (J : Family) (l : ℕ) where
   printed_there n printed asked h a m = by (J l (never n)) refl
     where
       by : (b : Bool) → J l (never n) ≡ b → J l a ≡ true
-      by true e = elim (among_cons a (never n) [] (subst (Among a) (h.dead e).0 m)) [ inl s ↦ ap (J l) s ∙ e | inr z ↦ none_among z ]
+      by true e = elim (among_cons (subst (Among a) (h.dead e).0 m)) [ inl s ↦ ap (J l) s ∙ e | inr z ↦ none_among z ]
       by false e =
           let x = h.other e in
           let f = mapped_among (least_atom c J l) x.left (subst (Among a) x.is m) in

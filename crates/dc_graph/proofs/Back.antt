@@ -3,6 +3,7 @@ use Rattle.std.specs.Prelude.{◌≡◌, ℕ, zero, suc, ◌+◌, ◌≤◌, ◌
 use Rattle.std.proofs.Common.{sym, ◌∙◌, ap, subst, arith, inl, inr}
 use Rattle.std.proofs.lemmas.Int.{ints}
 use Rattle.std.proofs.Math.IntN.{+ℤ_idl}
+use Rattle.dc_math.specs.Members.{Among, head, tail, among-one, among-two, among-++}
 use Rattle.dc_syntax.specs.declared.tree.Stmt.{Stmt, Stmt-F, out-Stmt, fold-roll-Stmt}
 use Rattle.dc_syntax.specs.declared.tree.Stmt.TheOpen.{Skip, Assign, AnyOf, Between, Tick, Assume, If, IfAny, While, WhileAny}
 use Rattle.dc_syntax.specs.declared.tree.Cond.{Cond}
@@ -13,11 +14,9 @@ use Rattle.dc_syntax.specs.Trees.{AllStmts, EachStmt}
 use Rattle.dc_syntax.proofs.Inductions.{Stmt-induction}
 use Rattle.dc_affine.specs.Table.{Fact, all_of, some_of, facts_of}
 use Rattle.dc_affine.proofs.TableLaws.{facts_tell}
-use Rattle.dc_graph.specs.Members.{Among, head, tail}
 use Rattle.dc_graph.specs.Labels.{Label, Arrow, arrow, branch, idle, sets, picks, picks_in, pays, tests}
 use Rattle.dc_graph.specs.Pieces.{Piece, sizes, first, placed, layer, piece, pieces, piece_in, exit_of, arrows_of}
 use Rattle.dc_graph.specs.Walks.{Acts, idles, set, picked, picked_in, paid, tested, Walk, done, step, Walks}
-use Rattle.dc_graph.proofs.Lists.{among-++, among-one, among-two}
 use Rattle.dc_graph.proofs.Parts.{piece_out}
 use Rattle.dc_graph.proofs.Forward.{Run-walk}
 

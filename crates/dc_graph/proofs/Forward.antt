@@ -2,17 +2,16 @@
 use Rattle.std.specs.Prelude.{◌≡◌, ℕ, zero, suc, ◌+◌, List, [], ◌∷◌, Bool, true, false, not, ◌||◌, ℤ, pos, ◌+ℤ◌, refl}
 use Rattle.std.proofs.Common.{sym, ◌∙◌, ap, subst}
 use Rattle.std.proofs.Math.IntN.{+ℤ_assoc, +ℤ_idl, +ℤ_comm}
+use Rattle.dc_math.specs.Members.{Among, head, tail, among-left, among-right}
 use Rattle.dc_syntax.specs.declared.tree.Stmt.{Stmt, Stmt-F}
 use Rattle.dc_syntax.specs.declared.tree.Cond.{Cond}
 use Rattle.dc_syntax.specs.Value.{State, truth}
 use Rattle.dc_syntax.specs.Run.{One, Run, skip, assign, any_of, between, tick, assume, if_true, if_false, if_left, if_right, while_done, while_turn, any_done, any_turn, none, more}
 use Rattle.dc_affine.specs.Table.{Fact, all_of, some_of, facts_of}
 use Rattle.dc_affine.proofs.TableLaws.{facts_tell}
-use Rattle.dc_graph.specs.Members.{Among, head, tail}
 use Rattle.dc_graph.specs.Labels.{Label, Arrow, arrow, branch, idle, sets, picks, picks_in, pays, tests}
 use Rattle.dc_graph.specs.Pieces.{Piece, sizes, first, placed, piece, pieces, piece_in}
 use Rattle.dc_graph.specs.Walks.{Acts, idles, set, picked, picked_in, paid, tested, Walk, done, step, Walks}
-use Rattle.dc_graph.proofs.Lists.{among-left, among-right}
 use Rattle.dc_graph.proofs.Parts.{piece_out}
 
 -- every arrow of the list is one of the system's

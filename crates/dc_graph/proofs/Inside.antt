@@ -1,15 +1,14 @@
 -- The edges of a piece go to its own numbers, to the number at which the program goes on, or, where an arm is empty, there too.
 use Rattle.std.specs.Prelude.{◌≡◌, ◌⊎◌, ℕ, ◌+◌, ◌≤◌, ◌<◌, List, [], ◌∷◌, ◌++◌, true, false, refl}
 use Rattle.std.proofs.Common.{sym, ap, subst, arith, inl, inr}
+use Rattle.dc_math.specs.Members.{Among, among-one, among-two, among-++}
 use Rattle.dc_syntax.specs.declared.tree.Stmt.{Stmt, Stmt-F, out-Stmt, fold-roll-Stmt}
 use Rattle.dc_syntax.specs.declared.tree.Stmt.TheOpen.{Skip, Assign, AnyOf, Between, Tick, Assume, If, IfAny, While, WhileAny}
 use Rattle.dc_syntax.specs.Trees.{AllStmts, EachStmt}
 use Rattle.dc_syntax.proofs.Inductions.{Stmt-induction}
 use Rattle.dc_affine.specs.Table.{Fact, facts_of}
-use Rattle.dc_graph.specs.Members.{Among}
 use Rattle.dc_graph.specs.Labels.{Label, Arrow, arrow, branch, idle}
 use Rattle.dc_graph.specs.Pieces.{Piece, sizes, first, placed, layer, piece, pieces, piece_in, exit_of, arrows_of}
-use Rattle.dc_graph.proofs.Lists.{among-++, among-one, among-two}
 use Rattle.dc_graph.proofs.Back.{among-branch, ranged, positive}
 use Rattle.dc_graph.proofs.Parts.{piece_out}
 

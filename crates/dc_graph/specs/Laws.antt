@@ -1,9 +1,9 @@
 -- The laws of the graph, each as the contract of a function of `laws` states it.
 use Rattle.std.specs.Prelude.{◌≡◌, ◌↔◌, ◌≤◌, ◌<◌, List, ℤ}
+use Rattle.dc_math.specs.Members.{Among}
 use Rattle.dc_syntax.specs.declared.tree.Stmt.{Stmt, Stmt-F, roll-Stmt}
 use Rattle.dc_syntax.specs.Value.{State}
 use Rattle.dc_syntax.specs.Run.{Run}
-use Rattle.dc_graph.specs.Members.{Among}
 use Rattle.dc_graph.specs.Labels.{Arrow}
 use Rattle.dc_graph.specs.Pieces.{piece, piece_in, exit_of, arrows_of}
 use Rattle.dc_graph.specs.Walks.{Walks}

@@ -1,4 +1,3 @@
-pub mod Members
 pub mod Labels
 pub mod Pieces
 pub mod Walks

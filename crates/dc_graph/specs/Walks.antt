@@ -1,9 +1,9 @@
 -- What a label does to a state, and the walks through a graph.
 use Rattle.std.specs.Prelude.{◌≡◌, ℕ, zero, suc, List, slice_set, ℤ, pos, ◌+ℤ◌, ◌≤ℤ◌, true}
+use Rattle.dc_math.specs.Members.{Among}
 use Rattle.dc_syntax.specs.declared.tree.Expr.{Expr}
 use Rattle.dc_syntax.specs.Value.{State, value}
 use Rattle.dc_affine.specs.Table.{Fact, all_of}
-use Rattle.dc_graph.specs.Members.{Among}
 use Rattle.dc_graph.specs.Labels.{Label, Arrow, arrow, idle, sets, picks, picks_in, pays, tests}
 
 -- from a state, at a cost, to a state

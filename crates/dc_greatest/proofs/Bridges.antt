@@ -6,8 +6,8 @@ use Rattle.std.specs.Option.{option_map}
 use Rattle.std.proofs.Common.{refl, sym, ◌∙◌, ap, ap₂, subst, inl, inr, arith}
 use Rattle.std.proofs.lemmas.Bool.{cases_lt}
 use Rattle.std.proofs.lemmas.Int.{ints}
+use Rattle.dc_math.specs.Members.{Among, head, among_at, at_among}
 use Rattle.dc_affine.specs.declared.atom.Atom.{Atom}
-use Rattle.dc_graph.specs.Members.{Among, head}
 use Rattle.dc_rows.specs.declared.kinds.Candidates.{Candidates}
 use Rattle.dc_rows.specs.Rows.{Row, is_nonzero}
 use Rattle.dc_rows.specs.Candidate.{row_at, bound_at, IsRow, AreCandidates}
@@ -15,7 +15,7 @@ use Rattle.dc_families.specs.Families.{Family, never, bounded, candidate_atoms, 
 use Rattle.dc_families.specs.Graphs.{Graph}
 use Rattle.dc_families.specs.Rounds.{IsWithin, HasCandidates}
 use Rattle.dc_families.specs.Laws.{IsUpward}
-use Rattle.dc_families.proofs.Lists.{differ, at_among, among_at, same_lists, same_test}
+use Rattle.dc_families.proofs.Lists.{differ, same_lists, same_test}
 use Rattle.dc_families.proofs.Tests.{bounded_candidate, in_everything}
 use Rattle.dc_greatest.specs.declared.family.LocFamily.{LocFamily}
 use Rattle.dc_greatest.specs.Kept.{stands_for, least_rows, list_in, IsFrom, IsBelow, IsShaped}

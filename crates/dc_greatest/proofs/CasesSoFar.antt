@@ -3,10 +3,9 @@ use Rattle.std.specs.Prelude.{◌≡◌, ◌↔◌, ℕ, zero, suc, ◌+◌, ◌
 use Rattle.std.proofs.Common.{refl, sym, ◌∙◌, ap, subst, inl, inr, arith, append-nil, append_assoc}
 use Rattle.std.proofs.lemmas.Bool.{cases_eq}
 use Rattle.std.proofs.lemmas.List.{take_all}
+use Rattle.dc_math.specs.Members.{Among, head, none_among, among_cons, among-left, among-right, among-++}
 use Rattle.dc_syntax.specs.declared.tree.Side.{Side}
 use Rattle.dc_affine.specs.declared.atom.Atom.{Atom}
-use Rattle.dc_graph.specs.Members.{Among, head}
-use Rattle.dc_graph.proofs.Lists.{among-left, among-right, among-++}
 use Rattle.dc_simplex.specs.Limits.{Answer, Past, Out}
 use Rattle.dc_points.specs.Points.{Entails}
 use Rattle.dc_points.specs.Shown.{AreFlags}
@@ -18,7 +17,6 @@ use Rattle.dc_families.specs.Graphs.{Graph}
 use Rattle.dc_families.specs.Families.{Family}
 use Rattle.dc_families.specs.Moves.{at_start}
 use Rattle.dc_families.specs.Rounds.{IsGiven}
-use Rattle.dc_families.proofs.Lists.{none_among, among_cons}
 use Rattle.dc_greatest.specs.declared.family.LocFamily.{LocFamily}
 use Rattle.dc_greatest.specs.declared.family.InvFault.{InvFault}
 use Rattle.dc_greatest.specs.declared.family.InvFault.TheVariants.{Past128, Budget, NoMemory}
@@ -108,7 +106,7 @@ module _ (side : Side) (s : Graph) (cases : List (List Atom)) (live : List Bool)
     given_more m a g h = record {
       entry = λ q case i. elim (among-++ (take k cases) (subst (Among case) next i)) [
         | inl j ↦ g.entry q case j
-        | inr j ↦ elim (among_cons case (case_at k) [] j) [ inl e ↦ subst (λ x. Entails x (at_start s.params a)) (sym e) (h q) | inr z ↦ none_among z ]
+        | inr j ↦ elim (among_cons j) [ inl e ↦ subst (λ x. Entails x (at_start s.params a)) (sym e) (h q) | inr z ↦ none_among z ]
       ];
       edges = g.edges;
     }

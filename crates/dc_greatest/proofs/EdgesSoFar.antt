@@ -4,9 +4,9 @@ use Rattle.std.specs.List.{AllByRecursion}
 use Rattle.std.proofs.Common.{refl, sym, ◌∙◌, ap, subst, inl, inr, arith, append-nil, append_assoc}
 use Rattle.std.proofs.lemmas.Bool.{cases_eq}
 use Rattle.std.proofs.lemmas.List.{take_all, get_or_default}
+use Rattle.dc_math.specs.Members.{Among, head, none_among, among_cons, among-left, among-right, among-++, at_among}
 use Rattle.dc_syntax.specs.declared.tree.Side.{Side}
 use Rattle.dc_affine.specs.declared.atom.Atom.{Atom}
-use Rattle.dc_graph.specs.Members.{Among, head}
 use Rattle.dc_simplex.specs.Limits.{Answer, Past, Out}
 use Rattle.dc_system.specs.declared.edges.Edge.{Edge}
 use Rattle.dc_system.specs.declared.edges.System.{System}
@@ -21,8 +21,7 @@ use Rattle.dc_families.specs.Graphs.{Graph, with_edges}
 use Rattle.dc_families.specs.Families.{Family}
 use Rattle.dc_families.specs.Rounds.{EdgeGives, IsGiven, IsRound}
 use Rattle.dc_families.proofs.Decisions.{decide_dead}
-use Rattle.dc_graph.proofs.Lists.{among-left, among-right, among-++}
-use Rattle.dc_families.proofs.Lists.{differ, none_among, at_among, among_cons}
+use Rattle.dc_families.proofs.Lists.{differ}
 use Rattle.dc_greatest.specs.declared.family.LocFamily.{LocFamily}
 use Rattle.dc_greatest.specs.declared.family.InvFault.{InvFault}
 use Rattle.dc_greatest.specs.declared.family.InvFault.TheVariants.{Past128, Budget, NoMemory}
@@ -97,7 +96,7 @@ module _ (side : Side) (s : Graph) (cases : List (List Atom)) (live : List Bool)
     entry = g.entry;
     edges = λ d m t. elim (among-++ (take k s.edges) (subst (Among d) (take_next s.edges k e j i) m)) [
       | inl n ↦ g.edges d n t
-      | inr n ↦ elim (among_cons d e [] n) [ inl q ↦ subst (λ x. EdgeGives s J x a) (sym q) (h (sym (ap (λ (x : Edge). x.to) q) ∙ t)) | inr z ↦ none_among z ]
+      | inr n ↦ elim (among_cons n) [ inl q ↦ subst (λ x. EdgeGives s J x a) (sym q) (h (sym (ap (λ (x : Edge). x.to) q) ∙ t)) | inr z ↦ none_among z ]
     ];
   }
 

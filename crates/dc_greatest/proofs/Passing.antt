@@ -2,18 +2,17 @@
 use Rattle.std.specs.Prelude.{◌≡◌, ◌⊎◌, ℕ, zero, suc, ◌+◌, ◌<◌, ◌≤◌, ◌^◌, Bool, true, false, cond, if◌then◌else◌, ◌&&◌, List, [], ◌∷◌, map, take, length, replicate, sum_by, unsigned_abs, slice_index_or, ℤ, pos, negsuc, ◌+ℤ◌, ◌*ℤ◌, ◌≤ℤ◌, Option, None}
 use Rattle.std.proofs.Common.{refl, sym, ◌∙◌, ap, ap₂, subst, inl, inr, arith}
 use Rattle.std.proofs.lemmas.Int.{ints}
+use Rattle.dc_math.specs.Members.{Among, head, tail, each_among, mapped_among, at_among}
 use Rattle.dc_math.specs.Rational.{of_ℤ}
 use Rattle.dc_syntax.specs.declared.tree.Side.{Side}
 use Rattle.dc_poly.specs.Sums.{zeros}
 use Rattle.dc_affine.specs.declared.atom.Atom.{Atom}
 use Rattle.dc_affine.specs.Atoms.{AllFit, AllAtoms, AllCases, IsAtom, IsFullAtom}
-use Rattle.dc_graph.specs.Members.{Among, head, tail}
 use Rattle.dc_system.specs.declared.edges.Edge.{Edge}
 use Rattle.dc_system.specs.declared.rows.RowAfter.{RowAfter}
 use Rattle.dc_system.specs.After.{is_affine_after, row_after_of}
 use Rattle.dc_system.specs.Composed.{coef_at}
 use Rattle.dc_system.specs.Shapes.{IsEdge}
-use Rattle.dc_system.proofs.Lists.{each_among, mapped_among}
 use Rattle.dc_lp.specs.Linear.{Linear}
 use Rattle.dc_simplex.specs.declared.SolveFault.{SolveFault}
 use Rattle.dc_simplex.specs.declared.SolveFault.TheVariants.{NoMemory}
@@ -33,7 +32,7 @@ use Rattle.dc_families.specs.Graphs.{Graph}
 use Rattle.dc_families.specs.Families.{Family, never, bounded, kept_rows, or_zero, least_atom, atoms_at}
 use Rattle.dc_families.specs.Moves.{at_start, edge_places, form_after}
 use Rattle.dc_families.specs.Rounds.{EdgeGives, HasCandidates}
-use Rattle.dc_families.proofs.Lists.{differ, at_among, all_atoms, each_atom, find_is}
+use Rattle.dc_families.proofs.Lists.{differ, all_atoms, each_atom, find_is}
 use Rattle.dc_families.proofs.Upward.{kept_is}
 use Rattle.dc_moves.specs.Cuts.{with_guard}
 use Rattle.dc_moves.proofs.Cuts.{cuts_say_the_same, cuts_ask_the_same, cuts_ask_the_same_forms, cuts_are_atoms}

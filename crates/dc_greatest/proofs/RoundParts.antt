@@ -1,6 +1,7 @@
 -- The two parts of a round as one.
 use Rattle.std.specs.Prelude.{◌≡◌, ℕ, Bool, true, List, ◌++◌, map}
 use Rattle.std.proofs.Common.{ap, subst, inl, inr}
+use Rattle.dc_math.specs.Members.{none_among}
 use Rattle.dc_syntax.specs.declared.tree.Side.{Side}
 use Rattle.dc_affine.specs.declared.atom.Atom.{Atom}
 use Rattle.dc_simplex.specs.Limits.{Answer, Past, Out}
@@ -10,7 +11,6 @@ use Rattle.dc_entail.proofs.Refusals.{refusals_join}
 use Rattle.dc_rows.specs.declared.kinds.Candidates.{Candidates}
 use Rattle.dc_families.specs.Graphs.{Graph}
 use Rattle.dc_families.specs.Families.{Family}
-use Rattle.dc_families.proofs.Lists.{none_among}
 use Rattle.dc_greatest.specs.declared.family.LocFamily.{LocFamily}
 use Rattle.dc_greatest.specs.declared.family.InvFault.{InvFault}
 use Rattle.dc_greatest.specs.declared.family.InvFault.TheVariants.{Past128, Budget, NoMemory}

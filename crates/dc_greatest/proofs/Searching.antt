@@ -3,9 +3,9 @@
 use Rattle.std.specs.Prelude.{◌≡◌, ℕ, zero, suc, ◌+◌, ◌<◌, Bool, true, false, List, [], ◌∷◌, ◌++◌, map, length, slice_index_or}
 use Rattle.std.proofs.Common.{refl, sym, ◌∙◌, ap, subst, inl, inr, arith, append_assoc, append-nil}
 use mathlib.Core.Path.{fun_ext}
+use Rattle.dc_math.specs.Members.{Among, at_among}
 use Rattle.dc_syntax.specs.declared.tree.Side.{Side}
 use Rattle.dc_affine.specs.declared.atom.Atom.{Atom}
-use Rattle.dc_graph.specs.Members.{Among}
 use Rattle.dc_simplex.specs.Limits.{Answer, Past, Out}
 use Rattle.dc_system.specs.declared.edges.Edge.{Edge}
 use Rattle.dc_points.specs.Shown.{IsFlag, AreFlags}
@@ -17,7 +17,7 @@ use Rattle.dc_rows.specs.Candidate.{AreCandidates}
 use Rattle.dc_families.specs.Graphs.{Graph}
 use Rattle.dc_families.specs.Families.{Family, everything, atoms_at, candidate_atoms}
 use Rattle.dc_families.specs.Rounds.{IsRound, IsWithin, IsGreatest}
-use Rattle.dc_families.proofs.Lists.{differ, at_among, same_test}
+use Rattle.dc_families.proofs.Lists.{differ, same_test}
 use Rattle.dc_families.proofs.Greatest.{round_within, IsAbove, above_round, above_stable}
 use Rattle.dc_families.proofs.Weights.{weight, all_or_fewer}
 use Rattle.dc_greatest.specs.declared.family.LocFamily.{LocFamily}

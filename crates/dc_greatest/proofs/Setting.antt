@@ -3,8 +3,8 @@ use Rattle.std.specs.Prelude.{◌≡◌, ◌↔◌, ℕ, ◌<◌, true, List, se
 use Rattle.std.proofs.Common.{sym, ◌∙◌, ap, subst, inl, inr, arith}
 use Rattle.std.proofs.lemmas.Bool.{cases_eq}
 use Rattle.std.proofs.lemmas.Grind.{common_steps}
+use Rattle.dc_math.specs.Members.{Among}
 use Rattle.dc_affine.specs.declared.atom.Atom.{Atom}
-use Rattle.dc_graph.specs.Members.{Among}
 use Rattle.dc_rows.specs.declared.kinds.Candidates.{Candidates}
 use Rattle.dc_greatest.specs.declared.family.LocFamily.{LocFamily}
 use Rattle.dc_greatest.specs.Kept.{stands_for, atoms_in, IsBelow, IsFit, IsShaped}

@@ -6,18 +6,16 @@ use Rattle.std.proofs.Common.{refl, sym, ◌∙◌, ap, ap₂, subst, inl, inr, 
 use Rattle.std.proofs.lemmas.Bool.{cases_lt}
 use Rattle.std.proofs.lemmas.Int.{ints}
 use Rattle.std.proofs.lemmas.List.FromFn.{length-map-range_with_len, get_or-map-range_with_len}
+use Rattle.dc_math.specs.Members.{Among, head, among_cons, among-left, among-right, among-++, among_map, mapped_among, among_at, at_among}
 use Rattle.dc_affine.specs.declared.atom.Atom.{Atom}
-use Rattle.dc_graph.specs.Members.{Among, head}
 use Rattle.dc_rows.specs.declared.kinds.Candidates.{Candidates}
 use Rattle.dc_rows.specs.Rows.{Row}
 use Rattle.dc_rows.specs.Candidate.{row_at, bound_at, AreCandidates}
 use Rattle.dc_families.specs.Families.{Family, never, bounded, has_atom}
 use Rattle.dc_families.specs.Rounds.{IsWithin, HasCandidates}
 use Rattle.dc_families.specs.Laws.{IsUpward}
-use Rattle.dc_graph.proofs.Lists.{among-left, among-right, among-++}
-use Rattle.dc_system.proofs.Lists.{among_map, mapped_among}
 use Rattle.dc_families.specs.Graphs.{Graph}
-use Rattle.dc_families.proofs.Lists.{differ, among_cons, among_at, at_among}
+use Rattle.dc_families.proofs.Lists.{differ}
 use Rattle.dc_families.proofs.Tests.{has_among, among_has, IsOne, is_never, is_bounded, candidate_is, everything_is}
 use Rattle.dc_families.proofs.Greatest.{same_family}
 use Rattle.dc_greatest.specs.declared.family.LocFamily.{LocFamily}
@@ -84,7 +82,7 @@ module _ (n : ℕ) (c : Candidates) where
       rows m = let g = rows_are c c.rows f.least a m in kept_bound g.0 g.1 g.2 g.4 g.3 g.5
 
       by : (b : Bool) → f.dead ≡ b → Among a (cond b (never n ∷ []) [] ++ rows_from c c.rows f.least) → IsKept n c f a
-      by true e m = elim (among_cons a (never n) _ m) [ inl s ↦ kept_never e s | inr i ↦ rows i ]
+      by true e m = elim (among_cons m) [ inl s ↦ kept_never e s | inr i ↦ rows i ]
       by false e m = rows m
 
   pub atom_kept : (f : LocFamily) (a : Atom) → IsKept n c f a → Among a (atoms_in n c f)

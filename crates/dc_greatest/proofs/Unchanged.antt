@@ -2,9 +2,9 @@
 use Rattle.std.specs.Prelude.{◌≡◌, ℕ, Bool, true, false, cond, if◌then◌else◌, List, [], ◌∷◌, ◌++◌, map, filter}
 use Rattle.std.proofs.Common.{refl, sym, subst}
 use mathlib.Core.Path.{fun_ext}
+use Rattle.dc_math.specs.Members.{Among, head, tail, among_map, mapped_among}
 use Rattle.dc_syntax.specs.declared.tree.Side.{Side}
 use Rattle.dc_affine.specs.declared.atom.Atom.{Atom}
-use Rattle.dc_graph.specs.Members.{Among, head, tail}
 use Rattle.dc_system.specs.declared.edges.Edge.{Edge}
 use Rattle.dc_entail.specs.Asked.{Asked, IsDone, AllDone}
 use Rattle.dc_rows.specs.declared.kinds.Candidates.{Candidates}
@@ -13,7 +13,6 @@ use Rattle.dc_families.specs.Graphs.{Graph}
 use Rattle.dc_families.specs.Families.{Family, never, bounded, kept_rows}
 use Rattle.dc_system.specs.After.{is_affine_after}
 use Rattle.dc_families.specs.Rounds.{EdgeGives, IsRound, IsWithin}
-use Rattle.dc_system.proofs.Lists.{among_map, mapped_among}
 use Rattle.dc_system.proofs.Filters.{kept_in, in_kept}
 use Rattle.dc_families.proofs.Greatest.{round_within}
 use Rattle.dc_families.proofs.Upward.{kept_is, kept_there}

@@ -2,13 +2,13 @@
 use Rattle.std.specs.Prelude.{◌≡◌, ℕ, zero, suc, ◌<◌, true, List, [], ◌∷◌, length, replicate, slice_index_or, ℤ, pos, None}
 use Rattle.std.proofs.Common.{refl, sym, ◌∙◌, ap, ap₂, subst, arith}
 use Rattle.std.proofs.lemmas.List.{get_or-replicate}
+use Rattle.dc_math.specs.Members.{among_at}
 use Rattle.dc_affine.specs.declared.atom.Atom.{Atom}
 use Rattle.dc_rows.specs.declared.kinds.Candidates.{Candidates}
 use Rattle.dc_rows.specs.Candidate.{AreCandidates}
 use Rattle.dc_families.specs.Graphs.{Graph}
 use Rattle.dc_families.specs.Families.{bounded, everything}
 use Rattle.dc_families.proofs.Greatest.{same_family}
-use Rattle.dc_families.proofs.Lists.{among_at}
 use Rattle.dc_families.proofs.Tests.{IsOne, is_never, is_bounded, candidate_is, everything_is}
 use Rattle.dc_greatest.specs.declared.family.LocFamily.{LocFamily}
 use Rattle.dc_greatest.specs.Kept.{stands_for, IsFrom, IsBelow, IsShaped}

@@ -1,8 +1,8 @@
 -- Least bounds: what is asked of a row, and what a way leaves of a location's atoms.
 use Rattle.std.specs.Prelude.{◌≡◌, ◌↔◌, ℕ, ◌<◌, ◌≤◌, ltb, if◌then◌else◌, List, [], ◌∷◌, length, replicate, slice_index_or, slice_set, true, Option, Some, None, ℤ, ◌+ℤ◌, ◌<ℤ◌}
+use Rattle.dc_math.specs.Members.{Among}
 use Rattle.dc_math.specs.Rational.{ℚ, of_ℤ, ◌≤ℚ◌}
 use Rattle.dc_affine.specs.declared.atom.Atom.{Atom}
-use Rattle.dc_graph.specs.Members.{Among}
 use Rattle.dc_lp.specs.Linear.{Linear}
 use Rattle.dc_lp.specs.Tables.{Table}
 use Rattle.dc_pivots.specs.declared.Ending.{Ending}

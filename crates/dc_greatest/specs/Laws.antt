@@ -1,8 +1,8 @@
 -- The laws of the rounds and of the code's form of a family.
 use Rattle.std.specs.Prelude.{◌≡◌, ℕ, ◌<◌, Bool, true, List, slice_index_or}
+use Rattle.dc_math.specs.Members.{Among}
 use Rattle.dc_syntax.specs.declared.tree.Side.{Side}
 use Rattle.dc_affine.specs.declared.atom.Atom.{Atom}
-use Rattle.dc_graph.specs.Members.{Among}
 use Rattle.dc_system.specs.declared.edges.Edge.{Edge}
 use Rattle.dc_entail.specs.Asked.{Asked, AllDone}
 use Rattle.dc_rows.specs.declared.kinds.Candidates.{Candidates}

@@ -1,8 +1,8 @@
 -- What the parts of a round do, and which edges need not be looked at again.
 use Rattle.std.specs.Prelude.{◌≡◌, ℕ, ◌<◌, Bool, true, false, if◌then◌else◌, is_some, ◌&&◌, List, [], ◌∷◌, map, take, length, slice_index_or}
+use Rattle.dc_math.specs.Members.{Among}
 use Rattle.dc_syntax.specs.declared.tree.Side.{Side}
 use Rattle.dc_affine.specs.declared.atom.Atom.{Atom}
-use Rattle.dc_graph.specs.Members.{Among}
 use Rattle.dc_system.specs.declared.edges.Edge.{Edge}
 use Rattle.dc_system.specs.After.{is_affine_after}
 use Rattle.dc_points.specs.Points.{Entails}

@@ -1,6 +1,6 @@
 //! One edge, or one case of the condition, in a round.
 ghost use Rattle.std.specs.Prelude.{◌≡◌, ◌<◌, IfOk, IfErr, OnOk, length, slice_index_or, take};
-ghost use Rattle.dc_graph.specs.Members.{Among};
+ghost use Rattle.dc_math.specs.Members.{Among};
 ghost use Rattle.dc_points.specs.Points.{Entails, IsDead};
 ghost use Rattle.dc_points.specs.Stated.{rational, sup_problem};
 ghost use Rattle.dc_entail.specs.Answers.{IsSolveFault};

@@ -9,8 +9,8 @@ use Rattle.std.proofs.lemmas.List.{set-get_or, get_or-set_other, length-set}
 use Rattle.std.proofs.lemmas.List.Edits.{swap_is}
 use Rattle.std.proofs.lemmas.List.Elements.{All-from_recursion, recursion_from_All}
 use Rattle.std.proofs.lemmas.List.Sorted.{IsPermutation-refl, IsPermutation-trans, IsPermutation-cons, IsPermutation-middle, IsPermutation-keeps, length_permutation}
+use Rattle.dc_math.specs.Members.{among_image, among_contained, contained_among}
 use Rattle.dc_math.specs.WholeRing.{ring, reads, read_nat, same_form}
-use Rattle.dc_math.specs.OrderedLists.{In, in-map, in_contained, contained_in}
 use Rattle.dc_poly.specs.Terms.{Polynomial, polynomial, TermList, value, Canonical, Places}
 use Rattle.dc_poly.specs.Sums.{constant, variable, product_of, constant_of, variable_of, times}
 use Rattle.dc_poly.proofs.Values.{Canonical-constant, Canonical-times}
@@ -195,10 +195,9 @@ each_is_sorted n k c l h = (sorted c, sorted-permutes c, sorted_stands n k c l h
 
 pub each_product_stands : EachProductStands
 each_product_stands n k hyps c a l h =
-    contained_in (product_at n hyps c) (products_of n hyps k)
-    (in-map (product_at n hyps) (sorted c) (product_at n hyps c) (choices_of (length hyps) k)
-    (order_is_free n hyps c (sorted c) a (sorted-permutes c))
-    (in_contained (sorted c) (choices_of (length hyps) k) (sorted_stands (length hyps) k c l h)))
+    contained_among (product_at n hyps c) (products_of n hyps k)
+    (among_image (product_at n hyps) (order_is_free n hyps c (sorted c) a (sorted-permutes c))
+    (among_contained (sorted c) (choices_of (length hyps) k) (sorted_stands (length hyps) k c l h)))
 
 -- ---- where all atoms hold
 each_holds : (hyps : List Atom) (i : ℕ) (xs : List ℤ) → all_hold hyps xs ≡ true → pos 0 ≤ℤ atom_value (atom_at hyps i) xs

@@ -4,16 +4,15 @@ use Rattle.std.specs.List.{AllByRecursion}
 use Rattle.std.proofs.Common.{refl, sym, ◌∙◌, ap, ap₂, subst, arith, append_assoc, append-nil}
 use Rattle.std.proofs.lemmas.List.{take_all, length-take-le, get_or-take, get_or_default}
 use Rattle.std.proofs.lemmas.List.Sums.{sum_by-take-le}
+use Rattle.dc_math.specs.Members.{Among, head, tail, each_among, at_among}
 use Rattle.dc_math.specs.Rational.{of_ℤ}
 use Rattle.dc_affine.specs.declared.atom.Atom.{Atom}
 use Rattle.dc_affine.specs.Atoms.{AllFit, IsAtom, IsFullAtom, AllAtoms, AllCases}
-use Rattle.dc_graph.specs.Members.{Among, head, tail}
 use Rattle.dc_program.specs.Programs.{IsCondition}
 use Rattle.dc_lp.specs.Problems.{whole_at}
 use Rattle.dc_system.specs.declared.edges.Edge.{Edge}
 use Rattle.dc_system.specs.After.{row_after_of, atom_after}
 use Rattle.dc_system.specs.Shapes.{IsEdge, IsWithin as EndsWithin, IsWellFormed}
-use Rattle.dc_system.proofs.Lists.{each_among}
 use Rattle.dc_cert.specs.declared.sparse.Sparse.{Sparse}
 use Rattle.dc_cert.specs.declared.certificate.Liveness.{Liveness}
 use Rattle.dc_cert.specs.declared.certificate.Liveness.TheVariants.{Dead, Live}
@@ -32,7 +31,7 @@ use Rattle.dc_families.specs.Graphs.{graph_of}
 use Rattle.dc_families.specs.Families.{family_of}
 use Rattle.dc_families.specs.Moves.{at_start, edge_places, form_after}
 use Rattle.dc_families.specs.Rounds.{IsInductive}
-use Rattle.dc_families.proofs.Lists.{each_atom, at_among}
+use Rattle.dc_families.proofs.Lists.{each_atom}
 use Rattle.dc_families.proofs.Tests.{has_among, among_has}
 use Rattle.dc_moves.specs.Cuts.{with_guard}
 use Rattle.dc_moves.proofs.Cuts.{cuts_ask_the_same, cuts_ask_the_same_forms, cuts_say_the_same, cuts_are_atoms, combines-cut, live-cut}

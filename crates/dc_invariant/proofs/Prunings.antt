@@ -5,9 +5,9 @@ use Rattle.std.specs.List.{AllByRecursion, range_with_len}
 use Rattle.std.proofs.Common.{refl, sym, ◌∙◌, ap, ap₂, subst, inl, inr, arith, append_assoc, append-nil, length-append}
 use Rattle.std.proofs.lemmas.Bool.{cases_Bool, cases_lt, cases_eq}
 use Rattle.std.proofs.lemmas.List.{take_all, length-take-le, length-drop, get_or_default, get_or-drop}
+use Rattle.dc_math.specs.Members.{Among, among_range_back}
 use Rattle.dc_affine.specs.declared.atom.Atom.{Atom}
 use Rattle.dc_affine.specs.Atoms.{IsFullAtom, AllAtoms}
-use Rattle.dc_graph.specs.Members.{Among}
 use Rattle.dc_system.specs.Shapes.{IsWellFormed}
 use Rattle.dc_system.proofs.Sums.{each_at}
 use Rattle.dc_entail.specs.declared.answer.Place.TheVariants as place
@@ -22,7 +22,7 @@ use Rattle.dc_families.specs.Families.{Family, never, bounded, or_zero, least_in
 use Rattle.dc_families.specs.Printed.{Question, atoms_of, Pruned, done, drops, keeps, IsPrinted, ArePrinted}
 use Rattle.dc_families.specs.Rounds.{IsHonest}
 use Rattle.dc_families.proofs.Decided.{entailment_is_decided}
-use Rattle.dc_families.proofs.Lists.{differ, among_range_back}
+use Rattle.dc_families.proofs.Lists.{differ}
 use Rattle.dc_families.proofs.Prunes.{has_printed}
 use Rattle.dc_greatest.specs.declared.family.LocFamily.{LocFamily}
 use Rattle.dc_greatest.specs.declared.family.InvFault.{InvFault}

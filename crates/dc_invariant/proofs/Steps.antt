@@ -4,9 +4,9 @@ use Rattle.std.specs.List.{AllByRecursion, range_with_len}
 use Rattle.std.proofs.Common.{refl, sym, ◌∙◌, ap, ap₂, subst, inl, inr, arith, add-one}
 use Rattle.std.proofs.lemmas.List.{take_more, get_or_read, map-id}
 use Rattle.std.proofs.lemmas.List.FromFn.{filter_of_map_range_with_len_more}
+use Rattle.dc_math.specs.Members.{Among, head, tail}
 use Rattle.dc_affine.specs.declared.atom.Atom.{Atom}
 use Rattle.dc_affine.specs.Atoms.{AllAtoms}
-use Rattle.dc_graph.specs.Members.{Among, head, tail}
 use Rattle.dc_entail.specs.declared.answer.Place.{Place}
 use Rattle.dc_entail.specs.Asked.{ask, IsDone}
 use Rattle.dc_points.specs.Points.{MeetsAt, IsDead, Entails}

@@ -3,15 +3,15 @@ use Rattle.std.specs.Prelude.{◌≡◌, ℕ, zero, suc, ◌<◌, ◌≤◌, Boo
 use Rattle.std.specs.List.{AllByRecursion}
 use Rattle.std.proofs.Common.{refl, sym, ap, subst, arith}
 use Rattle.std.proofs.lemmas.Int.{ints}
+use Rattle.dc_math.specs.Members.{Among, head, tail, at_among}
 use Rattle.dc_affine.specs.declared.atom.Atom.{Atom}
 use Rattle.dc_affine.specs.Atoms.{AllFit, IsFullAtom, AllAtoms}
-use Rattle.dc_graph.specs.Members.{Among, head, tail}
 use Rattle.dc_rows.specs.declared.kinds.Candidates.{Candidates}
 use Rattle.dc_rows.specs.Bounds.{largest_bound}
 use Rattle.dc_rows.specs.Candidate.{row_at, IsRow, AreCandidates}
 use Rattle.dc_families.specs.Families.{Family, never, bounded, or_zero, kept_rows, least_atom}
 use Rattle.dc_families.specs.Printed.{Question, atoms_of, Pruned, done, drops, keeps, IsPrinted}
-use Rattle.dc_families.proofs.Lists.{at_among, find_is}
+use Rattle.dc_families.proofs.Lists.{find_is}
 use Rattle.dc_families.proofs.Upward.{kept_is}
 use Rattle.dc_invariant.specs.Laws.{PrintedAreAtoms}
 use Rattle.dc_invariant.proofs.Steps.{all_mapped}

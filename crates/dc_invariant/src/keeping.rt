@@ -1,8 +1,8 @@
 //! What shows printed atoms.
 ghost use Rattle.std.specs.Prelude.{◌≡◌, ◌<◌, ◌∷◌, [], IfOk, IfErr, true, length};
 ghost use Rattle.std.specs.List.{AllByRecursion};
+ghost use Rattle.dc_math.specs.Members.{Among};
 ghost use Rattle.dc_affine.specs.Atoms.{IsFullAtom, AllAtoms};
-ghost use Rattle.dc_graph.specs.Members.{Among};
 ghost use Rattle.dc_program.specs.Programs.{IsCondition};
 ghost use Rattle.dc_system.specs.Shapes.{IsWellFormed};
 ghost use Rattle.dc_points.specs.Points.{IsDead};

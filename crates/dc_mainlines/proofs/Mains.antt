@@ -1,10 +1,10 @@
 -- The main problem is one in pairs, so that the clauses show what a certificate claims.
 use Rattle.std.specs.Prelude.{◌≡◌, ℕ, zero, suc, ◌*◌, ◌≤◌, ◌<◌, List, [], ◌∷◌, ◌++◌, flat_map, length, slice_get, pos, neg_ℤ, Option, Some, None}
-use Rattle.std.specs.List.{range_with_len}
+use Rattle.std.specs.List.{range_with_len, AllByRecursion}
 use Rattle.std.proofs.Common.{refl, sym, ◌∙◌, ap, subst, arith}
+use Rattle.dc_math.specs.Members.{each_all, each-++, each-map, each-flat_map, get_each}
 use Rattle.dc_math.specs.Rational.{ℚ, ◌≤ℚ◌}
 use Rattle.dc_math.specs.Order.{of_ℤ_injective}
-use Rattle.dc_math.specs.Cones.{Each}
 use Rattle.dc_lp.specs.Linear.{Linear, cost_of, IsSolution}
 use Rattle.dc_lp.specs.Problems.{coefficient, whole_at}
 use Rattle.dc_points.specs.Stated.{rational}
@@ -19,7 +19,6 @@ use Rattle.dc_claims.specs.Duties.{Pair, Flags, duties_of}
 use Rattle.dc_claims.specs.Parts.{unknowns_at, unknowns_on, unknowns_of}
 use Rattle.dc_claims.specs.Claims.{IsLeast}
 use Rattle.dc_claims.specs.Problems.{Column, Plus, Minus, Times, both_signs, products_at, multipliers_at, equations_of, entry_or_zero, cost_in, cost_or_zero, main_problem, Equation}
-use Rattle.dc_claims.proofs.Eaches.{each_all, each-map, each-flat_map, each-++, get_each}
 use Rattle.dc_claims.proofs.Costs.{outcomes_are_claims}
 use Rattle.dc_clauses.specs.Mains.{whole_problem}
 use Rattle.dc_mainlines.specs.Laws.{MainProblemsArePaired, StepsShowClaims, ProblemsAreWhole}
@@ -58,13 +57,13 @@ IsFree c = cost_in c ≡ pos 0
 abbrev IsCoefficient : Unknown → Type 0
 IsCoefficient u = IsFree (Plus u)
 
-free_times : (p : Pair) (d k : ℕ) (os : List Duty) → Each IsFree (flat_map (multipliers_at p k) os)
+free_times : (p : Pair) (d k : ℕ) (os : List Duty) → AllByRecursion IsFree (flat_map (multipliers_at p k) os)
 free_times p d k os = each-flat_map IsFree (multipliers_at p k) os (each_all _ os (λ o. each-map IsFree (Times o) _ (each_all _ (range_with_len 0 (length (products_at p k o))) (λ i. refl))))
 
-free_on : (p : Pair) (d : ℕ) (side : Side) → Each IsCoefficient (unknowns_on p d side)
+free_on : (p : Pair) (d : ℕ) (side : Side) → AllByRecursion IsCoefficient (unknowns_on p d side)
 free_on p d side = each-flat_map IsCoefficient (unknowns_at p d side) _ (each_all _ _ (λ l. each-map IsCoefficient (Coefficient side l) _ (each_all _ _ (λ i. refl))))
 
-free_at : (cs : List Column) (i : ℕ) → Each IsFree cs → cost_or_zero (slice_get cs i) ≡ pos 0
+free_at : (cs : List Column) (i : ℕ) → AllByRecursion IsFree cs → cost_or_zero (slice_get cs i) ≡ pos 0
 free_at [] i h = refl
 free_at (c ∷ cs) zero h = h.0
 free_at (c ∷ cs) (suc i) h = free_at cs i h.1

@@ -2,7 +2,8 @@
 use Rattle.std.specs.Prelude.{◌≡◌, ◌⊎◌, ℕ, ◌+◌, ◌*◌, ◌<◌, ◌≤◌, List, [], ◌∷◌, ◌++◌, flat_map, length, map, take, slice_index_or}
 use Rattle.std.specs.List.{AllByRecursion}
 use Rattle.std.proofs.Common.{sym, ◌∙◌, ap, subst, arith, inl, inr}
-use Rattle.dc_math.specs.OrderedLists.{In, Ordered}
+use Rattle.dc_math.specs.Members.{Among}
+use Rattle.dc_math.specs.OrderedLists.{Ordered}
 use Rattle.dc_poly.specs.declared.monomial.Term.{Term}
 use Rattle.dc_poly.specs.Terms.{Before, Exponents, Polynomial, TermList}
 use Rattle.dc_coefficients.specs.declared.block.Block.{Block}
@@ -38,7 +39,7 @@ of_terms P (q ∷ qs) h = (h.0, of_terms P qs h.1)
 
 module _ (p : Pair) (d k : ℕ) where
   abbrev within : List Exponents → TermList → Type 0
-  within ms q = AllByRecursion (λ (t : Term). In t.mono ms) q
+  within ms q = AllByRecursion (λ (t : Term). Among t.mono ms) q
 
   pub sound : (o : Duty) (b : Block) → IsBlock p d k o b → IsSound b
   sound o b h = record {

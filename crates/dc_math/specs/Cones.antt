@@ -1,31 +1,12 @@
 -- Functions on any points, and which functions are sums of them with factors that are not negative.
-use Rattle.std.specs.Prelude.{◌≡◌, suc, pos, length, List, [], ◌∷◌, ◌++◌, map}
+use Rattle.std.specs.Prelude.{◌≡◌, suc, pos, length, List, [], ◌∷◌, ◌++◌}
+use Rattle.std.specs.List.{AllByRecursion}
 use Rattle.std.proofs.Common.{refl, sym, ap, ap₂, ◌∙◌}
+use Rattle.dc_math.specs.Members.{each-weaker}
 use Rattle.dc_math.specs.Rational.{ℚ, ◌+ℚ◌, ◌*ℚ◌, of_ℤ, NonNegative, NonNegative-+ℚ, NonNegative-*ℚ, one-*ℚ}
 use Rattle.dc_math.specs.RationalRing.{ring, reads, read_nat, same_form}
 use Rattle.dc_math.specs.Signs.{one_non_negative, zero_non_negative}
 use Rattle.dc_math.specs.Vectors.{dot, scale, add, zero_ℚ, dot-add, dot-scale, dot-nil}
-
--- ---- each element of a list
-abbrev pub Each : {X : Type 0} → (X → Type 0) → List X → Type 0
-Each P [] = Unit {0}
-Each P (x ∷ xs) = P x × Each P xs
-
-pub each_map : {X : Type 0} (P Q : X → Type 0) → ((x : X) → P x → Q x) → (xs : List X) → Each P xs → Each Q xs
-each_map P Q f [] h = tt
-each_map P Q f (x ∷ xs) h = (f x h.0, each_map P Q f xs h.1)
-
-pub each_append : {X : Type 0} (P : X → Type 0) (xs ys : List X) → Each P xs → Each P ys → Each P (xs ++ ys)
-each_append P [] ys h k = k
-each_append P (x ∷ xs) ys h k = (h.0, each_append P xs ys h.1 k)
-
-pub each_mapped : {X Y : Type 0} (P : Y → Type 0) (g : X → Y) (xs : List X) → Each (λ x. P (g x)) xs → Each P (map g xs)
-each_mapped P g [] h = tt
-each_mapped P g (x ∷ xs) h = (h.0, each_mapped P g xs h.1)
-
-pub each_unmapped : {X Y : Type 0} (P : Y → Type 0) (g : X → Y) (xs : List X) → Each P (map g xs) → Each (λ x. P (g x)) xs
-each_unmapped P g [] h = tt
-each_unmapped P g (x ∷ xs) h = (h.0, each_unmapped P g xs h.1)
 
 -- ---- sums with factors
 abbrev pub values_at : {X : Type 0} → List (X → ℚ) → X → List ℚ
@@ -35,15 +16,15 @@ values_at (f ∷ fs) x = f x ∷ values_at fs x
 -- f is the sum of fs, each times its factor; factors that are missing count as 0
 pub record Cone {X : Type 0} (fs : List (X → ℚ)) (f : X → ℚ) : Type 0 where
   pub by : List ℚ
-  pub not_negative : Each NonNegative by
+  pub not_negative : AllByRecursion NonNegative by
   pub is : (x : X) → dot (values_at fs x) by ≡ f x
 
-pub each_add : (ls ms : List ℚ) → Each NonNegative ls → Each NonNegative ms → Each NonNegative (add ls ms)
+pub each_add : (ls ms : List ℚ) → AllByRecursion NonNegative ls → AllByRecursion NonNegative ms → AllByRecursion NonNegative (add ls ms)
 each_add [] ms h k = k
 each_add (l ∷ ls) [] h k = h
 each_add (l ∷ ls) (m ∷ ms) h k = (NonNegative-+ℚ l m h.0 k.0, each_add ls ms h.1 k.1)
 
-pub each_scale : (c : ℚ) (ls : List ℚ) → NonNegative c → Each NonNegative ls → Each NonNegative (scale c ls)
+pub each_scale : (c : ℚ) (ls : List ℚ) → NonNegative c → AllByRecursion NonNegative ls → AllByRecursion NonNegative (scale c ls)
 each_scale c [] n h = tt
 each_scale c (l ∷ ls) n h = (NonNegative-*ℚ c l n h.0, each_scale c ls n h.1)
 
@@ -84,24 +65,24 @@ module _ {X : Type 0} (f : X → ℚ) (fs : List (X → ℚ)) where
   }
 
 -- each member is a sum
-pub cone_left : {X : Type 0} (fs gs : List (X → ℚ)) → Each (Cone (fs ++ gs)) fs
+pub cone_left : {X : Type 0} (fs gs : List (X → ℚ)) → AllByRecursion (Cone (fs ++ gs)) fs
 cone_left [] gs = tt
-cone_left (f ∷ fs) gs = (cone_head f (fs ++ gs), each_map (Cone (fs ++ gs)) (Cone (f ∷ fs ++ gs)) (cone_tail f (fs ++ gs)) fs (cone_left fs gs))
+cone_left (f ∷ fs) gs = (cone_head f (fs ++ gs), each-weaker (Cone (fs ++ gs)) (Cone (f ∷ fs ++ gs)) (cone_tail f (fs ++ gs)) fs (cone_left fs gs))
 
-pub cone_right : {X : Type 0} (fs gs : List (X → ℚ)) → Each (Cone (fs ++ gs)) gs
+pub cone_right : {X : Type 0} (fs gs : List (X → ℚ)) → AllByRecursion (Cone (fs ++ gs)) gs
 cone_right [] gs = cone_members gs
   where
-    cone_members : {X : Type 0} (gs : List (X → ℚ)) → Each (Cone gs) gs
+    cone_members : {X : Type 0} (gs : List (X → ℚ)) → AllByRecursion (Cone gs) gs
     cone_members [] = tt
-    cone_members (f ∷ fs) = (cone_head f fs, each_map (Cone fs) (Cone (f ∷ fs)) (cone_tail f fs) fs (cone_members fs))
-cone_right (f ∷ fs) gs = each_map (Cone (fs ++ gs)) (Cone (f ∷ fs ++ gs)) (cone_tail f (fs ++ gs)) gs (cone_right fs gs)
+    cone_members (f ∷ fs) = (cone_head f fs, each-weaker (Cone fs) (Cone (f ∷ fs)) (cone_tail f fs) fs (cone_members fs))
+cone_right (f ∷ fs) gs = each-weaker (Cone (fs ++ gs)) (Cone (f ∷ fs ++ gs)) (cone_tail f (fs ++ gs)) gs (cone_right fs gs)
 
-pub cone_members : {X : Type 0} (fs : List (X → ℚ)) → Each (Cone fs) fs
+pub cone_members : {X : Type 0} (fs : List (X → ℚ)) → AllByRecursion (Cone fs) fs
 cone_members fs = cone_right [] fs
 
 -- a sum of sums is a sum, also at points taken from other points and times a function
 module _ {X Y : Type 0} (hs : List (Y → ℚ)) (w : Y → ℚ) (r : Y → X) where
-  cone_dot : (fs : List (X → ℚ)) (ls : List ℚ) → Each NonNegative ls → Each (λ f. Cone hs (λ y. w y *ℚ f (r y))) fs → Cone hs (λ y. w y *ℚ dot (values_at fs (r y)) ls)
+  cone_dot : (fs : List (X → ℚ)) (ls : List ℚ) → AllByRecursion NonNegative ls → AllByRecursion (λ f. Cone hs (λ y. w y *ℚ f (r y))) fs → Cone hs (λ y. w y *ℚ dot (values_at fs (r y)) ls)
   cone_dot [] ls n h = cone_same hs (λ y. zero_ℚ) _ (λ y. ring (w y ∷ []) (λ ρ p. simp (p, read_nat ρ, reads) (same_form _ _ _ refl))) (cone_zero hs)
   cone_dot (f ∷ fs) [] n h = cone_same hs (λ y. zero_ℚ) _ (λ y. ring (w y ∷ []) (λ ρ p. simp (p, read_nat ρ, reads) (same_form _ _ _ refl))) (cone_zero hs)
   cone_dot (f ∷ fs) (l ∷ ls) n h =
@@ -109,24 +90,24 @@ module _ {X Y : Type 0} (hs : List (Y → ℚ)) (w : Y → ℚ) (r : Y → X) wh
       (λ y. ring (l ∷ w y ∷ f (r y) ∷ dot (values_at fs (r y)) ls ∷ []) (λ ρ p q s t. simp (p, q, s, t, reads) (same_form _ _ _ refl)))
       (cone_add hs _ _ (cone_scale hs l _ n.0 h.0) (cone_dot fs ls n.1 h.1))
 
-  pub cone_times : (fs : List (X → ℚ)) (g : X → ℚ) → Each (λ f. Cone hs (λ y. w y *ℚ f (r y))) fs → Cone fs g → Cone hs (λ y. w y *ℚ g (r y))
+  pub cone_times : (fs : List (X → ℚ)) (g : X → ℚ) → AllByRecursion (λ f. Cone hs (λ y. w y *ℚ f (r y))) fs → Cone fs g → Cone hs (λ y. w y *ℚ g (r y))
   cone_times fs g h c = cone_same hs (λ y. w y *ℚ dot (values_at fs (r y)) c.by) (λ y. w y *ℚ g (r y)) (λ y. ap (λ z. w y *ℚ z) (c.is (r y))) (cone_dot fs c.by c.not_negative h)
 
-pub cone_through : {X Y : Type 0} (hs : List (Y → ℚ)) (r : Y → X) (fs : List (X → ℚ)) (g : X → ℚ) → Each (λ f. Cone hs (λ y. f (r y))) fs → Cone fs g → Cone hs (λ y. g (r y))
+pub cone_through : {X Y : Type 0} (hs : List (Y → ℚ)) (r : Y → X) (fs : List (X → ℚ)) (g : X → ℚ) → AllByRecursion (λ f. Cone hs (λ y. f (r y))) fs → Cone fs g → Cone hs (λ y. g (r y))
 cone_through hs r fs g h c =
     cone_same hs (λ y. of_ℤ (pos 1) *ℚ g (r y)) (λ y. g (r y)) (λ y. one-*ℚ (g (r y)))
     (cone_times hs (λ y. of_ℤ (pos 1)) r fs g
-    (each_map (λ f. Cone hs (λ y. f (r y))) (λ f. Cone hs (λ y. of_ℤ (pos 1) *ℚ f (r y))) (λ f d. cone_same hs (λ y. f (r y)) _ (λ y. sym (one-*ℚ (f (r y)))) d) fs h)
+    (each-weaker (λ f. Cone hs (λ y. f (r y))) (λ f. Cone hs (λ y. of_ℤ (pos 1) *ℚ f (r y))) (λ f d. cone_same hs (λ y. f (r y)) _ (λ y. sym (one-*ℚ (f (r y)))) d) fs h)
     c)
 
-pub cone_cone : {X : Type 0} (hs fs : List (X → ℚ)) (g : X → ℚ) → Each (Cone hs) fs → Cone fs g → Cone hs g
+pub cone_cone : {X : Type 0} (hs fs : List (X → ℚ)) (g : X → ℚ) → AllByRecursion (Cone hs) fs → Cone fs g → Cone hs g
 cone_cone hs fs g h c = cone_through hs (λ x. x) fs g h c
 
 -- the same with exactly one factor for each function
 pub record Shown {X : Type 0} (fs : List (X → ℚ)) (f : X → ℚ) : Type 0 where
   pub by : List ℚ
   pub one_each : length by ≡ length fs
-  pub not_negative : Each NonNegative by
+  pub not_negative : AllByRecursion NonNegative by
   pub is : (x : X) → dot (values_at fs x) by ≡ f x
 
 module _ {X : Type 0} where
@@ -141,7 +122,7 @@ module _ {X : Type 0} where
   fit_length [] (f ∷ fs) = ap suc (fit_length [] fs)
   fit_length (l ∷ ls) (f ∷ fs) = ap suc (fit_length ls fs)
 
-  fit_each : (ls : List ℚ) (fs : List (X → ℚ)) → Each NonNegative ls → Each NonNegative (fit ls fs)
+  fit_each : (ls : List ℚ) (fs : List (X → ℚ)) → AllByRecursion NonNegative ls → AllByRecursion NonNegative (fit ls fs)
   unfolding fit
   fit_each ls [] h = tt
   fit_each [] (f ∷ fs) h = (zero_non_negative, fit_each [] fs tt)

@@ -1,3 +1,4 @@
+pub mod Members
 pub mod Integers
 pub mod Ring
 pub mod WholeRing

@@ -2,6 +2,7 @@
 use Rattle.std.specs.Prelude.{◌≡◌, ℕ, zero, suc, ◌+◌, ◌≤◌, List, [], ◌∷◌, ◌++◌, map, length, ℤ, pos, ◌-ℤ◌, neg_ℤ}
 use Rattle.std.specs.List.{range_with_len}
 use Rattle.std.proofs.Common.{refl, sym, ap, ◌∙◌, subst, arith}
+use Rattle.dc_math.specs.Members.{at_among}
 use Rattle.dc_math.specs.Rational.{ℚ, ◌+ℚ◌, ◌-ℚ◌, ◌*ℚ◌, of_ℤ, of_ℤ-+ℤ}
 use Rattle.dc_math.specs.RationalRing.{ring, reads, read_nat, same_form}
 use Rattle.dc_math.specs.Order.{of_ℤ-neg_ℤ}
@@ -14,7 +15,6 @@ use Rattle.dc_poly.specs.Sums.{zeros, values}
 use Rattle.dc_poly.specs.Monomials.{of_degree, monomials_of}
 use Rattle.dc_poly.proofs.Values.{zeros_value}
 use Rattle.dc_template.specs.Templates.{mono_values}
-use Rattle.dc_families.proofs.Lists.{at_among}
 use Rattle.dc_claims.specs.declared.duty.Duty.{Duty}
 use Rattle.dc_claims.specs.declared.duty.Duty.TheVariants.{Along, AtExit, AtEntry}
 use Rattle.dc_claims.specs.Duties.{Pair, no_edge, edge_at, exit_of, IsOwed}

@@ -2,6 +2,7 @@
 use Rattle.std.specs.Prelude.{◌≡◌, ℕ, ◌-◌, List, map, ℤ, ◌-ℤ◌, ◌+ℤ◌}
 use Rattle.std.proofs.Common.{sym, ap, ap₂, ◌∙◌, subst, arith, inl, inr}
 use Rattle.std.proofs.lemmas.Int.{ints}
+use Rattle.dc_math.specs.Members.{Mapped, mapped_among}
 use Rattle.dc_poly.specs.Terms.{value}
 use Rattle.dc_poly.specs.Sums.{values, places_of}
 use Rattle.dc_poly.specs.Sums as sums
@@ -14,7 +15,6 @@ use Rattle.dc_system.specs.Shapes.{IsWellFormed}
 use Rattle.dc_system.specs.Spots.{Net}
 use Rattle.dc_system.proofs.Crossings.{made_by}
 use Rattle.dc_system.proofs.Folds.{Joined, joined_at, first_in, second_in, first_to, second_from, was}
-use Rattle.dc_system.proofs.Lists.{Mapped, mapped_among}
 use Rattle.dc_system.proofs.Renumbered.{foldings_keep, starts}
 use Rattle.dc_folding.proofs.Numbers.{place_before, place_before_is, entry_before, exit_before}
 use Rattle.dc_plain.proofs.Prices.{ArePaid, IsPaid}

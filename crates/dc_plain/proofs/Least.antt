@@ -3,6 +3,7 @@ use Rattle.std.specs.Prelude.{◌≡◌, ℕ, zero, suc, ◌-◌, ◌&&◌, true
 use Rattle.std.specs.List.{AllByRecursion}
 use Rattle.std.proofs.Common.{refl, sym, ap, ap₂, ◌∙◌, subst, arith, inl, inr}
 use Rattle.std.proofs.lemmas.List.{length-replicate}
+use Rattle.dc_math.specs.Members.{Among, head, tail}
 use Rattle.dc_syntax.specs.declared.tree.Proc.{Proc}
 use Rattle.dc_syntax.specs.declared.tree.Side.TheVariants.{New, Old}
 use Rattle.dc_syntax.specs.Value.{State}
@@ -11,7 +12,6 @@ use Rattle.dc_syntax.specs.Costs.{Costs}
 use Rattle.dc_syntax.proofs.PlainRuns.{plain-costs_once, plain-costs_differ}
 use Rattle.dc_affine.specs.declared.atom.Atom.{Atom}
 use Rattle.dc_affine.specs.Atoms.{holds_at, all_hold, Allowed, IsAtom}
-use Rattle.dc_graph.specs.Members.{Among, head, tail}
 use Rattle.dc_system.specs.declared.edges.System.{System}
 use Rattle.dc_system.specs.Systems.{system_of}
 use Rattle.dc_system.specs.Shapes.{IsWellFormed}

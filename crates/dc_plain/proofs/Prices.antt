@@ -3,6 +3,7 @@ use Rattle.std.specs.Prelude.{◌≡◌, ℕ, zero, suc, ◌+◌, ◌-◌, List,
 use Rattle.std.specs.declared.option.Option.{Option}
 use Rattle.std.proofs.Common.{refl, sym, ap, ◌∙◌, subst, arith, inl, inr}
 use Rattle.std.proofs.lemmas.Int.{ints}
+use Rattle.dc_math.specs.Members.{Among, among-one, among-++, Mapped, mapped_among}
 use Rattle.dc_syntax.specs.declared.tree.Proc.{Proc}
 use Rattle.dc_syntax.specs.declared.tree.Stmt.{Stmt, Stmt-F, out-Stmt}
 use Rattle.dc_syntax.specs.declared.tree.Stmt.TheOpen.{Skip, Tick}
@@ -13,15 +14,12 @@ use Rattle.dc_poly.specs.Terms.{value}
 use Rattle.dc_poly.proofs.Values.{value-constant}
 use Rattle.dc_affine.specs.Forms.{Formed, form_step, form_of}
 use Rattle.dc_graph.specs.Labels.{Label, Arrow, arrow, idle, pays}
-use Rattle.dc_graph.specs.Members.{Among}
 use Rattle.dc_graph.specs.Pieces.{Piece, sizes, first, placed, piece, pieces, piece_in, exit_of, arrows_of}
-use Rattle.dc_graph.proofs.Lists.{among-++, among-one}
 use Rattle.dc_graph.proofs.Parts.{piece_out}
 use Rattle.dc_system.specs.declared.edges.Edge.{Edge}
 use Rattle.dc_system.specs.declared.edges.System.{System}
 use Rattle.dc_system.specs.Edges.{cost_of, edge_of}
 use Rattle.dc_system.specs.Systems.{system_of}
-use Rattle.dc_system.proofs.Lists.{Mapped, mapped_among}
 use Rattle.dc_claims.specs.Duties as duties
 
 -- ---- priced systems

@@ -3,7 +3,8 @@ use Rattle.std.specs.Prelude.{◌≡◌, ℕ, suc, ◌+◌, ◌*◌, ◌≤◌, 
 use Rattle.std.specs.List.{AllByRecursion}
 use Rattle.std.proofs.Common.{ap, arith}
 use Rattle.std.proofs.lemmas.Bool.{and_parts, leb-true}
-use Rattle.dc_math.specs.OrderedLists.{Ordered, In, no_longer}
+use Rattle.dc_math.specs.Members.{Among}
+use Rattle.dc_math.specs.OrderedLists.{Ordered, no_longer}
 use Rattle.dc_math.specs.Pascal.{higher}
 use Rattle.dc_poly.specs.declared.monomial.Term.{Term}
 use Rattle.dc_poly.specs.Terms.{Exponents, TermList, degree_of, weight, Ahead, Canonical, Places, Before}
@@ -28,7 +29,7 @@ in_order : (p : TermList) → Canonical p → Ordered Before (monos p)
 in_order [] h = tt
 in_order (t ∷ p) h = (ahead t.mono p h.1, in_order p h.2)
 
-within : (n d : ℕ) (p : TermList) → Places n p → degree_of p ≤ d → AllByRecursion (λ m. In m (monomials_of n d)) (monos p)
+within : (n d : ℕ) (p : TermList) → Places n p → degree_of p ≤ d → AllByRecursion (λ m. Among m (monomials_of n d)) (monos p)
 within n d [] h k = tt
 within n d (t ∷ p) h k = (list_every n d t.mono (record { places = h.0; low = omega arith }), within n d p h.1 (omega arith))
 

@@ -1,12 +1,13 @@
 -- The value of a polynomial by the values of the monomials of an ordered list.
 use Rattle.std.specs.Prelude.{◌≡◌, ◌⊎◌, Bool, true, false, cond, List, [], ◌∷◌, map, All, AllPairs, Contains, ℤ, pos, ◌+ℤ◌, ◌*ℤ◌, refl}
 use Rattle.std.specs.List.{AllByRecursion}
-use Rattle.std.proofs.Common.{sym, ◌∙◌, ap, ap₂, subst, inl, inr}
+use Rattle.std.proofs.Common.{sym, ◌∙◌, ap, ap₂, subst}
 use Rattle.std.proofs.lemmas.Int.{ints}
 use Rattle.std.proofs.lemmas.List.Elements.{recursion_from_All}
+use Rattle.dc_math.specs.Members.{Among, head, tail, each_among, none_among, among_contained}
 use Rattle.dc_math.specs.WholeRing.{ring, reads, read_nat, same_form}
 use Rattle.dc_math.specs.WholeVectors.{dot_ℤ}
-use Rattle.dc_math.specs.OrderedLists.{Ordered, In, each-in, ordered_pairs, in_contained}
+use Rattle.dc_math.specs.OrderedLists.{Ordered, ordered_pairs}
 use Rattle.dc_poly.specs.declared.monomial.Term.{Term}
 use Rattle.dc_poly.specs.Terms.{Exponents, TermList, mono_value, value, same_mono, coef, Before}
 use Rattle.dc_poly.proofs.Graded.{Before-not}
@@ -49,17 +50,15 @@ only-none k c (m ∷ ms) xs h =
     shape : (a x w : ℤ) → a ≡ pos 0 → w ≡ pos 0 → a *ℤ x +ℤ w ≡ pos 0
     shape a x w d e = rw (d, e) (ring (x ∷ []) (λ ρ i. simp (i, read_nat ρ, reads) (same_form _ _ _ refl)))
 
-only-one : (k : Exponents) (c : ℤ) (ms : List Exponents) (xs : List ℤ) → Ordered Before ms → In k ms → total (only k c) ms xs ≡ c *ℤ mono_value k xs
-only-one k c [] xs o i = absurd i
-only-one k c (m ∷ ms) xs o (inl e) =
-    subst (λ z. total (only k c) (z ∷ ms) xs ≡ c *ℤ mono_value k xs) e
-    (shape c (mono_value k xs) (only k c k) _ (ap (λ b. cond b c (pos 0)) (same_mono_refl k)) (only-none k c ms xs (subst (λ z. AllByRecursion (Before z) ms) (sym e) o.0)))
+only-one : (k : Exponents) (c : ℤ) (ms : List Exponents) (xs : List ℤ) → Ordered Before ms → Among k ms → total (only k c) ms xs ≡ c *ℤ mono_value k xs
+only-one k c [] xs o i = none_among i
+only-one k c (m ∷ ms) xs o head = shape c (mono_value k xs) (only k c k) _ (ap (λ b. cond b c (pos 0)) (same_mono_refl k)) (only-none k c ms xs o.0)
   where
     shape : (c x a w : ℤ) → a ≡ c → w ≡ pos 0 → a *ℤ x +ℤ w ≡ c *ℤ x
     shape c x a w d e = rw (d, e) (ring (c ∷ x ∷ []) (λ ρ i j. simp (i, j, read_nat ρ, reads) (same_form _ _ _ refl)))
-only-one k c (m ∷ ms) xs o (inr i) =
+only-one k c (m ∷ ms) xs o (tail i) =
     shape (mono_value m xs) (only k c m) _ (c *ℤ mono_value k xs)
-    (only-other k c m (λ e. Before-not m (subst (λ z. Before m z) e (each-in (Before m) k ms o.0 i)))) (only-one k c ms xs o.1 i)
+    (only-other k c m (λ e. Before-not m (subst (λ z. Before m z) e (each_among (Before m) o.0 i)))) (only-one k c ms xs o.1 i)
   where
     shape : (x a w y : ℤ) → a ≡ pos 0 → w ≡ y → a *ℤ x +ℤ w ≡ y
     shape x a w y d e = rw (d, e) (ring (x ∷ y ∷ []) (λ ρ i j. simp (i, j, read_nat ρ, reads) (same_form _ _ _ refl)))
@@ -67,7 +66,7 @@ only-one k c (m ∷ ms) xs o (inr i) =
 by_list : (p : TermList) (ms : List Exponents) (xs : List ℤ) → Ordered Before ms → AllByRecursion (λ (t : Term). Contains ms t.mono) p → value p xs ≡ total (coef p) ms xs
 by_list [] ms xs o h = sym (total-zero ms xs)
 by_list (t ∷ p) ms xs o h =
-    ap₂ ◌+ℤ◌ (sym (only-one t.mono t.coef ms xs o (in_contained t.mono ms h.0))) (by_list p ms xs o h.1)
+    ap₂ ◌+ℤ◌ (sym (only-one t.mono t.coef ms xs o (among_contained t.mono ms h.0))) (by_list p ms xs o h.1)
     ∙ sym (total-add (only t.mono t.coef) (coef p) ms xs)
 
 pub by_monomials : (p : TermList) (ms : List Exponents) (xs : List ℤ) → AllPairs Before ms → All (λ (t : Term). Contains ms t.mono) p

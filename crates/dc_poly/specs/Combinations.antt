@@ -1,7 +1,7 @@
 -- Sums of polynomials with whole coefficients, each times a rational factor.
 use Rattle.std.specs.Prelude.{ℕ, List, [], ◌∷◌, ℤ, pos}
+use Rattle.std.specs.List.{AllByRecursion}
 use Rattle.dc_math.specs.Rational.{ℚ, ◌+ℚ◌, ◌*ℚ◌, of_ℤ}
-use Rattle.dc_math.specs.Cones.{Each}
 use Rattle.dc_poly.specs.Terms.{Exponents, TermList, value, coef, Places}
 
 -- a polynomial with a factor
@@ -27,4 +27,4 @@ coef_of cs m = combination (λ p. coef p m) cs
 
 -- each polynomial has n places
 abbrev pub HavePlaces : ℕ → List Multiple → Type 0
-HavePlaces n cs = Each (λ (c : Multiple). Places n c.terms) cs
+HavePlaces n cs = AllByRecursion (λ (c : Multiple). Places n c.terms) cs

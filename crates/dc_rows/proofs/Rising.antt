@@ -12,7 +12,8 @@ use Rattle.std.proofs.lemmas.Bool.Decides.{Decides-int_eq}
 use Rattle.std.proofs.lemmas.List.Filters.{dedup_is}
 use Rattle.std.proofs.lemmas.List.Kept.{Contains-dedup, Contains-from_dedup, IsStrictlySortedBy-dedup}
 use Rattle.std.proofs.lemmas.List.Sorted.{Contains-permutation, IsPermutation-sym}
-use Rattle.dc_math.specs.OrderedLists.{In, Ordered, IsStrict, each-weaker, in_contained, contained_in, same_members}
+use Rattle.dc_math.specs.Members.{Among, tail, each-weaker, among_first, among_cons, among_contained, contained_among}
+use Rattle.dc_math.specs.OrderedLists.{Ordered, IsStrict, same_members}
 use Rattle.dc_rows.specs.Bounds.{with_bound, rising}
 use lib.Signed.{lt_z_yes, lt_z_no}
 
@@ -77,52 +78,46 @@ with-ordered b (c ∷ cs) o = by (placed b c) (with-ordered b cs o.1)
     by (there l e k) i = subst (Ordered ◌<ℤ◌) (sym (with-there b c cs l e)) o
     by (behind l e k) i = subst (Ordered ◌<ℤ◌) (sym (with-behind b c cs l e)) (with-each (λ y. c <ℤ y) b cs k o.0, i)
 
-in-with : (m b : ℤ) (cs : List ℤ) → In m (b ∷ cs) → In m (with_bound b cs)
+in-with : (m b : ℤ) (cs : List ℤ) → Among m (b ∷ cs) → Among m (with_bound b cs)
 in-with m b [] i = i
 in-with m b (c ∷ cs) i = by (placed b c) i (λ j. in-with m b cs j)
   where
-    by : Placed b c → In m (b ∷ c ∷ cs) → (In m (b ∷ cs) → In m (with_bound b cs)) → In m (with_bound b (c ∷ cs))
-    by (before l k) i r = subst (In m) (sym (with-before b c cs l)) i
-    by (there l e k) (inl j) r = subst (In m) (sym (with-there b c cs l e)) (inl (j ∙ k))
-    by (there l e k) (inr j) r = subst (In m) (sym (with-there b c cs l e)) j
-    by (behind l e k) (inl j) r = subst (In m) (sym (with-behind b c cs l e)) (inr (r (inl j)))
-    by (behind l e k) (inr (inl j)) r = subst (In m) (sym (with-behind b c cs l e)) (inl j)
-    by (behind l e k) (inr (inr j)) r = subst (In m) (sym (with-behind b c cs l e)) (inr (r (inr j)))
+    by : Placed b c → Among m (b ∷ c ∷ cs) → (Among m (b ∷ cs) → Among m (with_bound b cs)) → Among m (with_bound b (c ∷ cs))
+    by (before l k) i r = subst (Among m) (sym (with-before b c cs l)) i
+    by (there l e k) i r = subst (Among m) (sym (with-there b c cs l e)) (elim (among_cons i) [ inl q ↦ among_first (q ∙ k) | inr j ↦ j ])
+    by (behind l e k) i r = subst (Among m) (sym (with-behind b c cs l e)) (later (among_cons i))
+      where
+        later : (m ≡ b) ⊎ Among m (c ∷ cs) → Among m (c ∷ with_bound b cs)
+        later (inl q) = tail (r (among_first q))
+        later (inr j) = elim (among_cons j) [ inl q ↦ among_first q | inr k ↦ tail (r (tail k)) ]
 
-in_with : (m b : ℤ) (cs : List ℤ) → In m (with_bound b cs) → In m (b ∷ cs)
+in_with : (m b : ℤ) (cs : List ℤ) → Among m (with_bound b cs) → Among m (b ∷ cs)
 in_with m b [] i = i
 in_with m b (c ∷ cs) i = by (placed b c) i (λ j. in_with m b cs j)
   where
-    later : In m (c ∷ with_bound b cs) → (In m (with_bound b cs) → In m (b ∷ cs)) → In m (b ∷ c ∷ cs)
-    later (inl j) r = inr (inl j)
-    later (inr j) r = swap (r j)
-      where
-        swap : In m (b ∷ cs) → In m (b ∷ c ∷ cs)
-        swap (inl q) = inl q
-        swap (inr q) = inr (inr q)
+    later : Among m (c ∷ with_bound b cs) → (Among m (with_bound b cs) → Among m (b ∷ cs)) → Among m (b ∷ c ∷ cs)
+    later i r = elim (among_cons i) [
+      | inl q ↦ tail (among_first q)
+      | inr j ↦ elim (among_cons (r j)) [ inl q ↦ among_first q | inr k ↦ tail (tail k) ]
+    ]
 
-    by : Placed b c → In m (with_bound b (c ∷ cs)) → (In m (with_bound b cs) → In m (b ∷ cs)) → In m (b ∷ c ∷ cs)
-    by (before l k) i r = subst (In m) (with-before b c cs l) i
-    by (there l e k) i r = inr (subst (In m) (with-there b c cs l e) i)
-    by (behind l e k) i r = later (subst (In m) (with-behind b c cs l e) i) r
+    by : Placed b c → Among m (with_bound b (c ∷ cs)) → (Among m (with_bound b cs) → Among m (b ∷ cs)) → Among m (b ∷ c ∷ cs)
+    by (before l k) i r = subst (Among m) (with-before b c cs l) i
+    by (there l e k) i r = tail (subst (Among m) (with-there b c cs l e) i)
+    by (behind l e k) i r = later (subst (Among m) (with-behind b c cs l e) i) r
 
 -- ---- all of them
 pub rising-ordered : (bs : List ℤ) → Ordered ◌<ℤ◌ (rising bs)
 rising-ordered [] = tt
 rising-ordered (b ∷ bs) = with-ordered b (rising bs) (rising-ordered bs)
 
-pub in-rising : (m : ℤ) (bs : List ℤ) → In m bs → In m (rising bs)
+pub in-rising : (m : ℤ) (bs : List ℤ) → Among m bs → Among m (rising bs)
 in-rising m [] i = i
-in-rising m (b ∷ bs) (inl e) = in-with m b (rising bs) (inl e)
-in-rising m (b ∷ bs) (inr i) = in-with m b (rising bs) (inr (in-rising m bs i))
+in-rising m (b ∷ bs) i = in-with m b (rising bs) (elim (among_cons i) [ inl e ↦ among_first e | inr j ↦ tail (in-rising m bs j) ])
 
-pub in_rising : (m : ℤ) (bs : List ℤ) → In m (rising bs) → In m bs
+pub in_rising : (m : ℤ) (bs : List ℤ) → Among m (rising bs) → Among m bs
 in_rising m [] i = i
-in_rising m (b ∷ bs) i = by (in_with m b (rising bs) i) (in_rising m bs)
-  where
-    by : In m (b ∷ rising bs) → (In m (rising bs) → In m bs) → In m (b ∷ bs)
-    by (inl e) r = inl e
-    by (inr j) r = inr (r j)
+in_rising m (b ∷ bs) i = elim (among_cons (in_with m b (rising bs) i)) [ inl e ↦ among_first e | inr j ↦ tail (in_rising m bs j) ]
 
 -- ---- sorted, without repeats
 less : (x y : ℤ) → int_cmp x y ≡ Less → x <ℤ y
@@ -143,5 +138,5 @@ pub sorted-rises : (xs ys zs : List ℤ) → IsPermutation xs ys → IsSorted in
 sorted-rises xs ys zs p s f =
     dedup_is int_eq ys zs f
     ∙ same_members ◌<ℤ◌ below-strict (dedup int_eq ys) (rising xs) (strictly-ordered (dedup int_eq ys) (IsStrictlySortedBy-dedup int_cmp_total ties ys s)) (rising-ordered xs)
-    (λ m i. in-rising m xs (in_contained m xs (Contains-permutation ys xs m (IsPermutation-sym xs ys p) (Contains-from_dedup int_eq ys m (contained_in m (dedup int_eq ys) i)))))
-    (λ m i. in_contained m (dedup int_eq ys) (Contains-dedup int_eq_equiv (λ x y. (Decides-int_eq x y).0) ys m (Contains-permutation xs ys m p (contained_in m xs (in_rising m xs i)))))
+    (λ m i. in-rising m xs (among_contained m xs (Contains-permutation ys xs m (IsPermutation-sym xs ys p) (Contains-from_dedup int_eq ys m (contained_among m (dedup int_eq ys) i)))))
+    (λ m i. among_contained m (dedup int_eq ys) (Contains-dedup int_eq_equiv (λ x y. (Decides-int_eq x y).0) ys m (Contains-permutation xs ys m p (contained_among m xs (in_rising m xs i)))))

@@ -4,7 +4,8 @@ use Rattle.std.specs.List.{range_with_len, list_all, AllByRecursion}
 use Rattle.std.specs.Ordering.{int_eq}
 use Rattle.std.proofs.lemmas.Bool.{eq-eqb, leb-true, ltb-false, and_right}
 use Rattle.std.proofs.lemmas.List.FromFn.{length-map-range_with_len}
-use Rattle.dc_math.specs.OrderedLists.{In, in-map, each-in, pairs_ordered}
+use Rattle.dc_math.specs.Members.{Among, head, tail, each_among, none_among, among_each, among_image, among_filter_back, among_range}
+use Rattle.dc_math.specs.OrderedLists.{pairs_ordered}
 use Rattle.dc_poly.specs.NormalForm.{most}
 use Rattle.dc_affine.specs.declared.atom.Atom.{Atom}
 use Rattle.dc_affine.specs.Atoms.{AllFit, IsAtom, AllAtoms}
@@ -15,7 +16,6 @@ use Rattle.dc_rows.specs.Rows.{Row, row_by, alone, together, linear_part, is_non
 use Rattle.dc_rows.specs.Bounds.{around, mentioned, is_within, largest_bound, rising, candidate_bounds}
 use Rattle.dc_rows.specs.Candidate.{IsRow, AreCandidates, candidates_of}
 use Rattle.dc_rows.specs.Laws.{IsUnit, IsSource, single, pair, condition, guard, AreKind}
-use Rattle.dc_rows.proofs.Members.{in-range, in_filter, each-from_in}
 use Rattle.dc_rows.proofs.Rising.{rising-ordered, in_rising}
 use Rattle.dc_rows.proofs.Sources.{source, differ}
 
@@ -42,16 +42,16 @@ unit-nonzero : (c : ℤ) → IsUnit c → int_eq c (pos 0) ≡ false
 unit-nonzero c (inl e) = ap (λ x. int_eq x (pos 0)) e
 unit-nonzero c (inr e) = ap (λ x. int_eq x (pos 0)) e
 
-nonzero-in : (c : ℤ) (r : Row) → In c r → int_eq c (pos 0) ≡ false → is_nonzero r ≡ true
+nonzero-in : (c : ℤ) (r : Row) → Among c r → int_eq c (pos 0) ≡ false → is_nonzero r ≡ true
 nonzero-in c r i z = ap not (none r i)
   where
-    none : (r : Row) → In c r → list_all (λ x. int_eq x (pos 0)) r ≡ false
-    none [] i = absurd i
-    none (d ∷ r) (inl e) = ap (λ b. b && list_all (λ x. int_eq x (pos 0)) r) (ap (λ x. int_eq x (pos 0)) (sym e) ∙ z)
-    none (d ∷ r) (inr i) = and_right (int_eq d (pos 0)) (list_all (λ x. int_eq x (pos 0)) r) (none r i)
+    none : (r : Row) → Among c r → list_all (λ x. int_eq x (pos 0)) r ≡ false
+    none [] i = none_among i
+    none (d ∷ r) head = ap (λ b. b && list_all (λ x. int_eq x (pos 0)) r) z
+    none (d ∷ r) (tail i) = and_right (int_eq d (pos 0)) (list_all (λ x. int_eq x (pos 0)) r) (none r i)
 
-row-entry : (n k : ℕ) (f : ℕ → ℤ) (c : ℤ) → k < n → c ≡ f k → In c (row_by n f)
-row-entry n k f c h e = in-map f k c (range_with_len 0 n) e (in-range k 0 n (omega arith) (omega arith))
+row-entry : (n k : ℕ) (f : ℕ → ℤ) (c : ℤ) → k < n → c ≡ f k → Among c (row_by n f)
+row-entry n k f c h e = among_image f e (among_range k 0 n (omega arith) (omega arith))
 
 row-length : (n : ℕ) (f : ℕ → ℤ) → length (row_by n f) ≡ n
 row-length n f = length-map-range_with_len f 0 n
@@ -80,10 +80,10 @@ part-row n m a h z = record {
   within = fit-map (λ k. get_or a.coefs k (pos 0)) (λ k. fit_at a.coefs k h.coefs_within) (range_with_len 0 n);
 }
 
-atom-in : (P : Atom → Type 0) (a : Atom) (atoms : List Atom) → AllAtoms P atoms → In a atoms → P a
-atom-in P a [] h i = absurd i
-atom-in P a (b ∷ atoms) h (inl e) = subst P (sym e) h.0
-atom-in P a (b ∷ atoms) h (inr i) = atom-in P a atoms h.1 i
+atom-in : (P : Atom → Type 0) (a : Atom) (atoms : List Atom) → AllAtoms P atoms → Among a atoms → P a
+atom-in P a [] h i = none_among i
+atom-in P a (b ∷ atoms) h head = h.0
+atom-in P a (b ∷ atoms) h (tail i) = atom-in P a atoms h.1 i
 
 source-row : (s : System) (when : List Atom) (pairs : Bool) (r : Row) → IsWellFormed s → AllAtoms (IsAtom s.params) when → IsSource s when pairs r → IsRow s.vars r
 source-row s when pairs r y h (single k c l u e) = subst (IsRow s.vars) (sym e) (alone-row s.vars k c l u)
@@ -91,7 +91,7 @@ source-row s when pairs r y h (pair j k c d p l m u v e) = subst (IsRow s.vars) 
 source-row s when pairs r y h (condition a i e z) =
     subst (IsRow s.vars) (sym e) (part-row s.vars s.params a (atom-in (IsAtom s.params) a when h i) (ap is_nonzero (sym e) ∙ z))
 source-row s when pairs r y h (guard g a i j u e z) =
-    let k : IsEdge s.vars g = each-in (IsEdge s.vars) g s.edges y.edges i in
+    let k : IsEdge s.vars g = each_among (IsEdge s.vars) y.edges i in
     subst (IsRow s.vars) (sym e) (part-row s.vars (s.vars + 1) a (atom-in (IsAtom (s.vars + 1)) a g.guard k.atoms j) (ap is_nonzero (sym e) ∙ z))
 
 -- ---- limits
@@ -102,15 +102,15 @@ few false false f g h = (refl, refl)
 
 within-each : (bs : List ℤ) → AllByRecursion (λ b. unsigned_abs b ≤ largest_bound) (rising (filter is_within bs))
 within-each bs =
-    each-from_in (λ b. unsigned_abs b ≤ largest_bound) (rising (filter is_within bs))
-    (λ b i. leb-true (unsigned_abs b) largest_bound (in_filter is_within b bs (in_rising b (filter is_within bs) i)).1)
+    among_each (λ b. unsigned_abs b ≤ largest_bound) (rising (filter is_within bs))
+    (λ b i. leb-true (unsigned_abs b) largest_bound (among_filter_back is_within b bs (in_rising b (filter is_within bs) i)).1)
 
 pub are_wanted : (s : System) (when : List Atom) (pairs : Bool) (rs : List Row) (bs : List ℤ) → IsWellFormed s → AllAtoms (IsAtom s.params) when
     → rs ≡ candidate_rows s when pairs → bs ≡ candidate_bounds s when → length rs ≤ 1024 → length bs ≤ 256 → AreCandidates s.vars (record { rows = rs; bounds = bs })
 are_wanted s when pairs rs bs y h e f k l =
     let all : AreCandidates s.vars (candidates_of s when pairs) = record {
       few_rows = subst (λ x. length x ≤ 1024) e k;
-      rows = each-from_in (IsRow s.vars) (candidate_rows s when pairs) (λ r i. source-row s when pairs r y h (source s when pairs r i));
+      rows = among_each (IsRow s.vars) (candidate_rows s when pairs) (λ r i. source-row s when pairs r y h (source s when pairs r i));
       different = λ i j l m. pairs_ordered (λ q r. ¬ (q ≡ r)) (candidate_rows s when pairs) (differ (rows_with_repeats s when pairs)) i j [] l m;
       few_bounds = subst (λ x. length x ≤ 256) f l;
       bounds_within = within-each (flat_map around (mentioned s when));

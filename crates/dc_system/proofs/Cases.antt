@@ -4,6 +4,7 @@ use Rattle.std.specs.declared.option.Option.{Option}
 use Rattle.std.specs.Option.{option_or}
 use Rattle.std.specs.List.{AllByRecursion}
 use Rattle.std.proofs.Common.{sym, ◌∙◌, subst, arith, length-append}
+use Rattle.dc_math.specs.Members.{each-weaker, each-++}
 use Rattle.dc_syntax.specs.declared.tree.Expr.{Expr, Num, roll-Expr, fold-roll-Expr}
 use Rattle.dc_syntax.specs.declared.tree.Expr.TheOpen as F
 use Rattle.dc_syntax.specs.declared.tree.Rel.{Rel}
@@ -18,7 +19,6 @@ use Rattle.dc_affine.specs.Table.{Fact, fact, falsity, after, crossed, relation,
 use Rattle.dc_affine.specs.Atoms.{cond_is_below, cond_below_step, comparison_fault, width_fault, dnf_fault}
 use Rattle.dc_affine.proofs.FormLaws.{and_both}
 use Rattle.dc_program.specs.Limits.{operators, cond_operators, cond_operators_step}
-use Rattle.dc_system.proofs.Lists.{each-++, each_weaker}
 use Rattle.dc_system.proofs.Wider.{cond_below_wider, comparison_wider}
 use Rattle.dc_system.proofs.Levels.{IsLevel, cases_level}
 use Rattle.dc_system.proofs.Points.{FactBelow, IsCase}
@@ -88,7 +88,7 @@ abbrev Short : ℕ → List Fact → Type 0
 Short k f = length f ≤ 2 * (k + 1)
 
 short_weaker : (i k : ℕ) (fs : Facts) → i ≤ k → AllByRecursion (Short i) fs → AllByRecursion (Short k) fs
-short_weaker i k fs h = each_weaker (Short i) (Short k) (λ f g. omega arith) fs
+short_weaker i k fs h = each-weaker (Short i) (Short k) (λ f g. omega arith) fs
 
 short-after : (i k : ℕ) (f : List Fact) (gs : Facts) → Short i f → AllByRecursion (Short k) gs → AllByRecursion (Short (i + (1 + k))) (after f gs)
 short-after i k f [] h g = tt

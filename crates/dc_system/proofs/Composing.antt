@@ -5,6 +5,7 @@ use Rattle.std.specs.List.{AllByRecursion}
 use Rattle.std.proofs.Common.{sym, ◌∙◌, ap, ap₂, subst}
 use Rattle.std.proofs.lemmas.Bool.{le-leb, lt-leb}
 use Rattle.std.proofs.lemmas.List.{length_push}
+use Rattle.dc_math.specs.Members.{each-weaker, each-++}
 use Rattle.dc_syntax.specs.Value.{State}
 use Rattle.dc_syntax.specs.Table.{Then}
 use Rattle.dc_poly.specs.Terms.{Polynomial}
@@ -15,7 +16,6 @@ use Rattle.dc_system.specs.Shapes.{IsEdge, IsForm}
 use Rattle.dc_system.specs.Edges.{chosen}
 use Rattle.dc_system.specs.Composed.{after, atoms_at, forms_at, composed, all_flat, atoms_fit, form_fits, forms_fit, can_compose, compose_of, Crosses}
 use Rattle.dc_system.specs.Small.{IsSmall, AreValues}
-use Rattle.dc_system.proofs.Lists.{each-++, each_weaker}
 use Rattle.dc_system.proofs.Shape.{variable_form}
 use Rattle.dc_system.proofs.Crossings.{composed_crosses}
 use Rattle.dc_system.proofs.Composite.{compose_edge}
@@ -32,7 +32,7 @@ after_values n e vs h j q = subst (AreValues (n + 1)) (sym q) (record {
 })
 
 pub after_small : (n : ℕ) (e : Edge) (vs : List Polynomial) → n ≤ 10 → IsEdge n e → vs ≡ after n e → AllByRecursion IsSmall vs
-after_small n e vs h j q = each_weaker (IsForm (n + 1)) IsSmall (form_small (n + 1)) vs (after_values n e vs h j q).forms
+after_small n e vs h j q = each-weaker (IsForm (n + 1)) IsSmall (form_small (n + 1)) vs (after_values n e vs h j q).forms
 
 -- ---- the answer
 when : (n : ℕ) (e f : Edge) (b : Bool) (o : Option Edge) → can_compose n e f ≡ b → o ≡ (if b then Some (composed n e f) else None) → o ≡ compose_of n e f

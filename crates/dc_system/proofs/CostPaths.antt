@@ -3,6 +3,7 @@ use Rattle.std.specs.Prelude.{◌≡◌, ◌↔◌, ℕ, ◌-◌, List, length, 
 use Rattle.std.specs.List.{AllByRecursion}
 use Rattle.std.proofs.Common.{arith, length-append}
 use Rattle.std.proofs.lemmas.List.{length-replicate}
+use Rattle.dc_math.specs.Members.{each_among}
 use Rattle.dc_syntax.specs.declared.tree.Proc.{Proc}
 use Rattle.dc_syntax.specs.Value.{State}
 use Rattle.dc_syntax.specs.Costs.{start_of, Costs}
@@ -14,7 +15,6 @@ use Rattle.dc_system.specs.Shapes.{IsEdge}
 use Rattle.dc_system.specs.Paths.{Path, here, along}
 use Rattle.dc_system.specs.Folded.{IsFolded}
 use Rattle.dc_system.specs.Laws.{CostsThrough}
-use Rattle.dc_system.proofs.Lists.{each_among}
 use Rattle.dc_system.proofs.Crossings.{step_length}
 use Rattle.dc_system.proofs.Runs.{paths_runs}
 use Rattle.dc_system.proofs.Renumbered.{folded_runs}

@@ -5,6 +5,7 @@ use Rattle.std.proofs.Common.{sym, ◌∙◌, ap, ap₂, subst, arith, inl, inr}
 use Rattle.std.proofs.lemmas.Int.{ints}
 use Rattle.std.proofs.lemmas.Bool.{leb-true}
 use Rattle.std.proofs.lemmas.List.{length-map}
+use Rattle.dc_math.specs.Members.{each-++}
 use Rattle.dc_math.specs.WholeRing.{ring, reads, read_nat, same_form}
 use Rattle.dc_math.specs.WholeVectors.{dot_ℤ}
 use Rattle.dc_syntax.specs.Value.{State}
@@ -25,7 +26,6 @@ use Rattle.dc_system.specs.Composed.{after, coef_at, atom_at, atoms_at, forms_at
 use Rattle.dc_poly.proofs.Padded.{Places-variable}
 use Rattle.dc_poly.proofs.Degrees.{degree-unit_at}
 use Rattle.dc_system.proofs.Wider.{both}
-use Rattle.dc_system.proofs.Lists.{each-++}
 use Rattle.dc_system.proofs.Points.{chosen_value, values-++}
 
 -- ---- an atom at affine values

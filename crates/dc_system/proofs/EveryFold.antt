@@ -2,7 +2,7 @@
 use Rattle.std.proofs.Common.{◌≡◌, ◌⊎◌, ℕ, zero, suc, ◌-◌, ◌<◌, ◌≤◌, List, map, length, refl, subst, arith, inl, inr, Some, None}
 use Rattle.std.specs.declared.option.Option.{Option}
 use Rattle.std.proofs.lemmas.Bool.{cases_lt}
-use Rattle.dc_graph.specs.Members.{Among}
+use Rattle.dc_math.specs.Members.{Among}
 use Rattle.dc_system.specs.declared.edges.Edge.{Edge}
 use Rattle.dc_system.specs.declared.edges.System.{System}
 use Rattle.dc_system.specs.Shapes.{IsWellFormed}

@@ -4,8 +4,7 @@ use Rattle.std.proofs.Common.{sym, ◌∙◌, ap, ap₂, subst, arith, inl, inr,
 use Rattle.std.proofs.lemmas.Bool.{ltb-true, ltb-false, le-ltb, eqb-true, eqb-false, eq-eqb, ne_eqb}
 use Rattle.std.proofs.lemmas.Bool.{cases_order}
 use Rattle.std.proofs.lemmas.List.{length_push}
-use Rattle.dc_graph.specs.Members.{Among, head, tail}
-use Rattle.dc_graph.proofs.Lists.{among-left, among-right, among-++, among-one}
+use Rattle.dc_math.specs.Members.{Among, head, tail, among-one, among-left, among-right, among-++}
 use Rattle.dc_system.specs.Folded.{number_in, numbers_below, without}
 use Rattle.dc_system.specs.Spots.{times_in, IsLast}
 

@@ -5,14 +5,13 @@ use Rattle.std.specs.List.{AllByRecursion}
 use Rattle.std.proofs.Common.{sym, ◌∙◌, ap, ap₂, subst, arith, add-one}
 use Rattle.std.proofs.lemmas.Bool.{eq-eqb, ne_eqb, lt-ltb, le-ltb}
 use Rattle.std.proofs.lemmas.List.{drop_more, drop_all, length-map}
-use Rattle.dc_graph.specs.Members.{Among}
+use Rattle.dc_math.specs.Members.{Among, among_each, among_map}
 use Rattle.dc_system.specs.declared.edges.Edge.{Edge}
 use Rattle.dc_system.specs.declared.edges.System.{System}
 use Rattle.dc_system.specs.declared.folding.Spot.{Spot}
 use Rattle.dc_system.specs.Shapes.{IsEdge, IsWithin, IsWellFormed}
 use Rattle.dc_system.specs.Folded.{Folding, unfolded, fold_least, fold_at, folded, without, numbers_below, number_in, renumbered, IsFolded}
 use Rattle.dc_system.specs.Spots.{IsLeast, Net}
-use Rattle.dc_system.proofs.Lists.{among_each, among_map}
 use Rattle.dc_system.proofs.Filters.{length-filter_less, length-numbers}
 use Rattle.dc_system.proofs.Folds.{joined_at, second_from, second_in}
 use Rattle.dc_system.proofs.Places.{map-push}

@@ -3,16 +3,14 @@ use Rattle.std.specs.Prelude.{◌≡◌, ◌↔◌, ◌⊎◌, ℕ, Bool, true, 
 use Rattle.std.proofs.Common.{sym, ◌∙◌, ap, subst, inl, inr}
 use Rattle.std.proofs.Math.IntN.{+ℤ_assoc}
 use Rattle.std.proofs.lemmas.Bool.{eqb-true, eqb-false, eq-eqb, ne_eqb}
+use Rattle.dc_math.specs.Members.{Among, head, among-one, among_map, mapped_among}
 use Rattle.dc_syntax.specs.Value.{State}
 use Rattle.dc_syntax.specs.Table.{Then}
-use Rattle.dc_graph.specs.Members.{Among, head}
-use Rattle.dc_graph.proofs.Lists.{among-one}
 use Rattle.dc_system.specs.declared.edges.Edge.{Edge}
 use Rattle.dc_system.specs.Paths.{Step, Path, here, along}
 use Rattle.dc_system.specs.Shapes.{IsEdge}
 use Rattle.dc_system.specs.Composed.{compose_of, Crosses}
 use Rattle.dc_system.specs.Folded.{into, out_of, joint, fold_at, folded}
-use Rattle.dc_system.proofs.Lists.{among_map, mapped_among}
 use Rattle.dc_system.proofs.Filters.{kept_in, InBoth, in_kept}
 use Rattle.dc_system.proofs.Crossings.{Made, made_by, step_length, composed_crosses}
 

@@ -2,6 +2,7 @@
 use Rattle.std.specs.Prelude.{◌≡◌, ℕ, ◌+◌, ◌≤◌, Bool, true, false, ◌&&◌, ltb, List, [], ◌∷◌, ◌++◌, map, None, refl}
 use Rattle.std.specs.List.{AllByRecursion}
 use Rattle.std.proofs.Common.{sym, ◌∙◌, ap, subst, inl, inr}
+use Rattle.dc_math.specs.Members.{Among, each_left, each_right, among-one, among-++}
 use Rattle.dc_syntax.specs.declared.tree.Cond.{Cond}
 use Rattle.dc_syntax.specs.declared.tree.Stmt.{Stmt, Stmt-F, roll-Stmt, map-Stmt, fold-roll-Stmt}
 use Rattle.dc_syntax.specs.declared.tree.Stmt.TheOpen.{Skip, Assign, AnyOf, Between, Tick, Assume, If, IfAny, While, WhileAny}
@@ -12,14 +13,11 @@ use Rattle.dc_affine.specs.Table.{Fact, facts_of}
 use Rattle.dc_affine.specs.Atoms.{cond_is_below, dnf_fault}
 use Rattle.dc_affine.specs.Whole.{each, pass_step, statement_passes, all_pass}
 use Rattle.dc_affine.proofs.FormLaws.{and_both}
-use Rattle.dc_graph.specs.Members.{Among}
 use Rattle.dc_graph.specs.Labels.{Label, Arrow, arrow, branch, idle, tests}
 use Rattle.dc_graph.specs.Pieces.{Piece, sizes, first, placed, layer, piece, pieces, piece_in, exit_of, arrows_of}
-use Rattle.dc_graph.proofs.Lists.{among-++, among-one}
 use Rattle.dc_system.specs.Literals.{joined}
 use Rattle.dc_program.specs.Limits.{cond_operators}
 use Rattle.dc_system.proofs.Operators.{stmt_operators_step, stmt_operators, operators_of}
-use Rattle.dc_system.proofs.Lists.{each_left, each_right}
 use Rattle.dc_system.proofs.Passes.{Parts, parts, each_all, none_parts}
 use Rattle.dc_system.proofs.Points.{IsCase, LabelPasses}
 use Rattle.dc_system.proofs.Cases.{cases_pass}

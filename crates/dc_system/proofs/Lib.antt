@@ -14,7 +14,6 @@ pub mod Weights
 pub mod Bounded
 pub mod Levels
 pub mod Points
-pub mod Lists
 pub mod Cases
 pub mod Labels
 pub mod Runs

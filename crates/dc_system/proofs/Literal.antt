@@ -3,11 +3,10 @@ use Rattle.std.specs.Prelude.{◌≡◌, ◌⊎◌, ◌↔◌, ℕ, ◌<◌, ◌
 use Rattle.std.specs.List.{AllByRecursion}
 use Rattle.std.proofs.Common.{subst, arith, inl, inr}
 use Rattle.std.proofs.lemmas.Bool.{ltb-true, ltb-false, eqb-true, eqb-false}
+use Rattle.dc_math.specs.Members.{Among, head, tail, each-weaker}
 use Rattle.dc_syntax.specs.declared.tree.Stmt.{Stmt}
-use Rattle.dc_graph.specs.Members.{Among, head, tail}
 use Rattle.dc_system.specs.Literals.{with_number, with_numbers, numbers_of, literals_of}
 use Rattle.dc_system.specs.Laws.{Rising}
-use Rattle.dc_system.proofs.Lists.{each_weaker}
 
 pub with_number_each : (P : ℕ → Type 0) (k : ℕ) (xs : List ℕ) → P k → AllByRecursion P xs → AllByRecursion P (with_number k xs)
 with_number_each P k [] p h = (p, tt)
@@ -28,7 +27,7 @@ rising_with k [] h = (tt, tt)
 rising_with k (x ∷ xs) h = by (rising_with k xs h.1) (ltb k x) refl (eqb k x) refl
   where
     by : Rising (with_number k xs) → (b : Bool) → ltb k x ≡ b → (c : Bool) → eqb k x ≡ c → Rising (if b then k ∷ x ∷ xs else (if c then x ∷ xs else x ∷ with_number k xs))
-    by r true p c q = let l = ltb-true k x p in ((l, each_weaker (λ y. x < y) (λ y. k < y) (λ y m. omega arith) xs h.0), h)
+    by r true p c q = let l = ltb-true k x p in ((l, each-weaker (λ y. x < y) (λ y. k < y) (λ y m. omega arith) xs h.0), h)
     by r false p true q = h
     by r false p false q =
         let l = ltb-false k x p in

@@ -4,10 +4,10 @@ use Rattle.std.specs.List.{AllByRecursion}
 use Rattle.std.proofs.Common.{sym, ◌∙◌, ap, subst, arith, inl, inr}
 use Rattle.std.proofs.lemmas.Bool.{ne_eqb}
 use Rattle.std.proofs.lemmas.List.{length-map}
+use Rattle.dc_math.specs.Members.{Among, each_among, among_each, among_map, Mapped, mapped_among}
 use Rattle.dc_syntax.specs.declared.tree.Proc.{Proc}
 use Rattle.dc_syntax.specs.Value.{State}
 use Rattle.dc_syntax.specs.Run.{Run}
-use Rattle.dc_graph.specs.Members.{Among}
 use Rattle.dc_system.specs.declared.edges.Edge.{Edge}
 use Rattle.dc_system.specs.declared.edges.System.{System}
 use Rattle.dc_system.specs.Systems.{system_of, size_fault}
@@ -17,7 +17,6 @@ use Rattle.dc_system.specs.Shapes.{IsUnchosen, IsEdge, IsWithin, IsWellFormed}
 use Rattle.dc_system.specs.Folded.{fold_at, folded, without, Folding, unfolded, fold_least, numbers_below, number_in, renumbered, IsFolded}
 use Rattle.dc_system.specs.Spots.{Between, IsLast, Net}
 use Rattle.dc_system.specs.Laws.{Through}
-use Rattle.dc_system.proofs.Lists.{each_among, among_each, among_map, Mapped, mapped_among}
 use Rattle.dc_system.proofs.Filters.{kept_in, length-filter, number_rises, number_same, number_none, last_number, last_without, in_numbers, length-numbers, last_numbers}
 use Rattle.dc_system.proofs.Folds.{Joined, joined_at, c_from, c_to, was, first_in, second_in, fold_paths}
 use Rattle.dc_system.proofs.Composite.{compose_edge}

@@ -2,6 +2,7 @@
 use Rattle.std.specs.Prelude.{◌≡◌, ◌↔◌, ℕ, zero, suc, ◌+◌, ◌-◌, List, map, length, ℤ, ◌+ℤ◌, refl}
 use Rattle.std.proofs.Common.{sym, ◌∙◌, ap, subst, arith}
 use Rattle.std.proofs.Math.ListN.{length-set}
+use Rattle.dc_math.specs.Members.{among_map, Mapped, mapped_among}
 use Rattle.dc_syntax.specs.declared.tree.Proc.{Proc}
 use Rattle.dc_syntax.specs.Value.{State}
 use Rattle.dc_syntax.specs.Run.{Run}
@@ -16,7 +17,6 @@ use Rattle.dc_program.specs.Programs.{IsProgram}
 use Rattle.dc_system.proofs.Accepted.{accepted}
 use Rattle.dc_system.specs.Paths.{Step, Path, here, along}
 use Rattle.dc_system.specs.Laws.{Through}
-use Rattle.dc_system.proofs.Lists.{among_map, Mapped, mapped_among}
 use Rattle.dc_system.proofs.Points.{acts_step, step_acts}
 use Rattle.dc_system.proofs.Labels.{Labelled, labels_pass}
 

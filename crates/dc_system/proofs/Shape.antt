@@ -4,6 +4,7 @@ use Rattle.std.specs.List.{AllByRecursion}
 use Rattle.std.proofs.Common.{sym, ◌∙◌, ap, subst, arith, ltb-false}
 use Rattle.std.proofs.Math.ListN.{length-set}
 use Rattle.std.proofs.lemmas.List.{length-map}
+use Rattle.dc_math.specs.Members.{each-++, among_each, Mapped, mapped_among}
 use Rattle.dc_syntax.specs.declared.tree.Expr.{Expr}
 use Rattle.dc_syntax.specs.declared.tree.Expr.TheVariants.{Var}
 use Rattle.dc_syntax.specs.declared.tree.Proc.{Proc}
@@ -28,7 +29,6 @@ use Rattle.dc_program.specs.Programs.{IsProgram}
 use Rattle.dc_system.proofs.Accepted.{accepted}
 use Rattle.dc_system.specs.Shapes.{IsForm, TermsSkip, Skips, AtomSkips, IsEdge, IsWithin, IsWellFormed}
 use Rattle.dc_system.proofs.Wider.{widened, wide_last, form_wider, gap_wider, wide_coef_last}
-use Rattle.dc_system.proofs.Lists.{each-++, among_each, Mapped, mapped_among}
 use Rattle.dc_system.proofs.Places.{length-variables}
 use Rattle.dc_system.proofs.Weights.{form_polynomial}
 use Rattle.dc_system.proofs.Bounded.{wide_narrow}

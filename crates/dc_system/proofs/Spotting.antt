@@ -4,14 +4,13 @@ use Rattle.std.specs.declared.option.Option.{Option}
 use Rattle.std.specs.List.{AllByRecursion}
 use Rattle.std.proofs.Common.{sym, ◌∙◌, ap, ap₂, subst, arith, inl, inr}
 use Rattle.std.proofs.lemmas.Bool.{eqb-true, eq-eqb, ne_eqb, cases_order}
-use Rattle.dc_graph.specs.Members.{Among, head}
+use Rattle.dc_math.specs.Members.{Among, head, each_among}
 use Rattle.dc_system.specs.declared.edges.Edge.{Edge}
 use Rattle.dc_system.specs.declared.folding.Spot.{Spot}
 use Rattle.dc_system.specs.Shapes.{IsWithin}
 use Rattle.dc_system.specs.Composed.{compose_of}
 use Rattle.dc_system.specs.Folded.{into, out_of, joint, fold_at, folded}
 use Rattle.dc_system.specs.Spots.{IsOnly, IsSpotAt, IsLeast}
-use Rattle.dc_system.proofs.Lists.{each_among}
 use Rattle.dc_system.proofs.Sums.{each_at}
 use Rattle.dc_system.proofs.Filters.{in_kept}
 

@@ -1,13 +1,13 @@
 -- The laws of systems, each as the contract of a function of `laws` states it.
 use Rattle.std.specs.Prelude.{◌≡◌, ◌↔◌, ℕ, ◌-◌, ◌<◌, ◌≤◌, List, [], ◌∷◌, map, length, ℤ, Some, None}
 use Rattle.std.specs.List.{AllByRecursion}
+use Rattle.dc_math.specs.Members.{Among}
 use Rattle.dc_syntax.specs.declared.tree.Proc.{Proc}
 use Rattle.dc_syntax.specs.declared.tree.Stmt.{Stmt}
 use Rattle.dc_syntax.specs.Value.{State}
 use Rattle.dc_syntax.specs.Run.{Run}
 use Rattle.dc_syntax.specs.Costs.{start_of, Costs}
 use Rattle.dc_syntax.specs.Table.{Then}
-use Rattle.dc_graph.specs.Members.{Among}
 use Rattle.dc_system.specs.declared.edges.Edge.{Edge}
 use Rattle.dc_system.specs.declared.edges.System.{System}
 use Rattle.dc_system.specs.Composed.{compose_of, Crosses}

@@ -1,10 +1,10 @@
 -- Steps along an edge, and paths. States are whole numbers of any size, one for each variable.
 use Rattle.std.specs.Prelude.{◌≡◌, ℕ, List, [], ◌∷◌, ◌++◌, ℤ, pos, ◌+ℤ◌, true}
+use Rattle.dc_math.specs.Members.{Among}
 use Rattle.dc_syntax.specs.Value.{State}
 use Rattle.dc_poly.specs.Terms.{value}
 use Rattle.dc_poly.specs.Sums.{values}
 use Rattle.dc_affine.specs.Atoms.{all_hold}
-use Rattle.dc_graph.specs.Members.{Among}
 use Rattle.dc_system.specs.declared.edges.Edge.{Edge}
 
 -- a state and the chosen value after it

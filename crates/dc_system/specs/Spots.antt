@@ -1,7 +1,7 @@
 -- What the search for a foldable location answers, and what it wants.
 use Rattle.std.specs.Prelude.{◌≡◌, ℕ, ◌+◌, ◌≤◌, ◌<◌, cond, eqb, List, [], ◌∷◌, length, get_or, Some, None}
 use Rattle.std.specs.declared.option.Option.{Option}
-use Rattle.dc_graph.specs.Members.{Among}
+use Rattle.dc_math.specs.Members.{Among}
 use Rattle.dc_system.specs.declared.edges.Edge.{Edge}
 use Rattle.dc_system.specs.declared.folding.Spot.{Spot}
 use Rattle.dc_system.specs.Shapes.{IsEdge}

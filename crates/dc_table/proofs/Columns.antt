@@ -1,8 +1,7 @@
 -- The columns of a table are those of the main problem.
 use Rattle.std.specs.Prelude.{◌≡◌, ℕ, zero, suc, ◌+◌, ◌<◌, ◌≤◌, Bool, true, false, cond, if◌then◌else◌, List, [], ◌∷◌, ◌++◌, flat_map, length, map, replicate, ℤ, pos, neg_ℤ}
-use Rattle.std.specs.List.{range_with_len}
+use Rattle.std.specs.List.{range_with_len, AllByRecursion}
 use Rattle.std.proofs.Common.{refl, sym, ◌∙◌, ap, ap₂, subst, arith}
-use Rattle.dc_math.specs.Cones.{Each}
 use Rattle.dc_lp.specs.declared.Entry.{Entry}
 use Rattle.dc_poly.specs.Terms.{Exponents, TermList, Polynomial, polynomial, coef}
 use Rattle.dc_poly.specs.Sums.{negated}
@@ -41,15 +40,15 @@ length_++ [] ys = omega arith
 length_++ (x ∷ xs) ys = let h = length_++ xs ys in omega arith
 
 -- ---- zeros have no entries
-no_entries : (r : ℕ) (zs : List ℤ) → Each (λ z. z ≡ pos 0) zs → entries_from r zs ≡ []
+no_entries : (r : ℕ) (zs : List ℤ) → AllByRecursion (λ z. z ≡ pos 0) zs → entries_from r zs ≡ []
 no_entries r [] h = refl
 no_entries r (z ∷ zs) h = ap (λ y. entry_at r y ++ entries_from (suc r) zs) h.0 ∙ no_entries (suc r) zs h.1
 
-each_++ : {A : Type 0} (P : A → Type 0) (xs ys : List A) → Each P xs → Each P ys → Each P (xs ++ ys)
+each_++ : {A : Type 0} (P : A → Type 0) (xs ys : List A) → AllByRecursion P xs → AllByRecursion P ys → AllByRecursion P (xs ++ ys)
 each_++ P [] ys h g = g
 each_++ P (x ∷ xs) ys h g = (h.0, each_++ P xs ys h.1 g)
 
-each_zero : {A : Type 0} (f : A → ℤ) (xs : List A) → ((x : A) → f x ≡ pos 0) → Each (λ z. z ≡ pos 0) (map f xs)
+each_zero : {A : Type 0} (f : A → ℤ) (xs : List A) → ((x : A) → f x ≡ pos 0) → AllByRecursion (λ z. z ≡ pos 0) (map f xs)
 each_zero f [] h = tt
 each_zero f (x ∷ xs) h = (h x, each_zero f xs h)
 
@@ -68,17 +67,17 @@ module _ (p : Pair) (d k : ℕ) where
   own : (o : Duty) (i : ℕ) (m : Exponents) → entry_of p d k (equation o m) (Times o i) ≡ coef (negated (product_number p k o i).terms) m
   own o i m = ap (λ b. if b then neg_ℤ (coef (product_number p k o i).terms m) else pos 0) (same_duty_refl o) ∙ sym (coef-negated (product_number p k o i).terms m)
 
-  foreign_numbers : (o : Duty) (i : ℕ) (os : List Duty) → Each (λ c. same_duty c o ≡ false) os → Each (λ z. z ≡ pos 0) (map (λ q. entry_of p d k q (Times o i)) (equations_in p d k os))
+  foreign_numbers : (o : Duty) (i : ℕ) (os : List Duty) → AllByRecursion (λ c. same_duty c o ≡ false) os → AllByRecursion (λ z. z ≡ pos 0) (map (λ q. entry_of p d k q (Times o i)) (equations_in p d k os))
   foreign_numbers o i [] h = tt
   foreign_numbers o i (c ∷ os) h =
-      subst (Each (λ z. z ≡ pos 0)) (sym (map-++ (λ q. entry_of p d k q (Times o i)) (equations_at p d k c) (equations_in p d k os)))
-      (each_++ (λ z. z ≡ pos 0) _ _ (subst (Each (λ z. z ≡ pos 0)) (sym (numbers_at c (Times o i))) (each_zero _ (monos_at p d k c) (λ m. foreign o c i m h.0))) (foreign_numbers o i os h.1))
+      subst (AllByRecursion (λ z. z ≡ pos 0)) (sym (map-++ (λ q. entry_of p d k q (Times o i)) (equations_at p d k c) (equations_in p d k os)))
+      (each_++ (λ z. z ≡ pos 0) _ _ (subst (AllByRecursion (λ z. z ≡ pos 0)) (sym (numbers_at c (Times o i))) (each_zero _ (monos_at p d k c) (λ m. foreign o c i m h.0))) (foreign_numbers o i os h.1))
 
   length-equations : (o : Duty) → length (equations_at p d k o) ≡ length (monos_at p d k o)
   length-equations o = length_map (equation o) (monos_at p d k o)
 
   -- a multiplier's column, where its duty stands once among the duties
-  own_column : (before after : List Duty) (o : Duty) (i : ℕ) → Each (λ c. same_duty c o ≡ false) before → Each (λ c. same_duty c o ≡ false) after
+  own_column : (before after : List Duty) (o : Duty) (i : ℕ) → AllByRecursion (λ c. same_duty c o ≡ false) before → AllByRecursion (λ c. same_duty c o ≡ false) after
       → column_in p d k (before ++ (o ∷ after)) (Times o i) ≡ opposite_entries (length (equations_in p d k before)) (monos_at p d k o) (product_number p k o i)
   own_column before after o i h g =
       let f : Equation → ℤ = λ q. entry_of p d k q (Times o i) in
@@ -95,7 +94,7 @@ module _ (p : Pair) (d k : ℕ) where
       (numbers_at o (Times o i) ∙ map_same _ _ (monos_at p d k o) (own o i))
 
   -- each duty stands once
-  none_there : (o : Duty) (os : List Duty) → passing (same_duty o) os ≡ 0 → Each (λ c. same_duty c o ≡ false) os
+  none_there : (o : Duty) (os : List Duty) → passing (same_duty o) os ≡ 0 → AllByRecursion (λ c. same_duty c o ≡ false) os
   none_there o [] h = tt
   none_there o (c ∷ os) h = (by (same_duty c o) refl, none_there o os (rest (same_duty o c) (passing (same_duty o) os) h))
     where

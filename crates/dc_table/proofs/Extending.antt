@@ -2,12 +2,12 @@
 use Rattle.std.specs.Prelude.{◌≡◌, ℕ, zero, suc, ◌+◌, ◌*◌, ◌<◌, ◌≤◌, List, [], ◌∷◌, ◌++◌, flat_map, length, map, replicate, take, ◌-◌, slice_index_or, slice_set, Vec}
 use Rattle.std.specs.declared.alloc.Global.{Global}
 use Rattle.std.proofs.Common.{refl, sym, ◌∙◌, ap, ap₂, subst, arith}
+use Rattle.dc_math.specs.Members.{Among}
 use Rattle.dc_lp.specs.declared.Entry.{Entry}
 use Rattle.dc_poly.specs.Terms.{Exponents, Polynomial, TermList}
 use Rattle.dc_poly.specs.Sums.{negated}
 use Rattle.dc_poly.specs.declared.monomial.Term.{Term}
 use Rattle.std.specs.List.{AllByRecursion}
-use Rattle.dc_math.specs.OrderedLists.{In}
 use Rattle.dc_table.specs.Tables.{lists, extended, both_entries, entries_of, opposite_entries}
 use Rattle.dc_table.proofs.Lists.{regroup, flat_map_one}
 
@@ -78,7 +78,7 @@ both_extended cs r ms qs k q l e =
     ap (extended cs) (regroup (flat_map (both_entries r ms) (take k qs)) (entries_of r ms q ∷ []) (opposite_entries r ms q ∷ []) ∙ sym (ap (flat_map (both_entries r ms)) (take_there qs k q l e) ∙ flat_map_one (both_entries r ms) (take k qs) q))
 
 -- the opposite of a polynomial has the same monomials
-pub listed_negated : (ms : List Exponents) (p : TermList) → AllByRecursion (λ (t : Term). In t.mono ms) p → AllByRecursion (λ (t : Term). In t.mono ms) (negated p)
+pub listed_negated : (ms : List Exponents) (p : TermList) → AllByRecursion (λ (t : Term). Among t.mono ms) p → AllByRecursion (λ (t : Term). Among t.mono ms) (negated p)
 listed_negated ms [] h = tt
 listed_negated ms (t ∷ p) h = (h.0, listed_negated ms p h.1)
 

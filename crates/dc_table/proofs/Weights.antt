@@ -4,7 +4,8 @@ use Rattle.std.specs.List.{AllByRecursion}
 use Rattle.std.proofs.Common.{refl, sym, ◌∙◌, ap, ap₂, subst, arith, inl, inr}
 use Rattle.std.proofs.lemmas.Int.{ints}
 use Rattle.std.proofs.lemmas.List.Sums.{sum_by-cons, sum_by-append}
-use Rattle.dc_math.specs.OrderedLists.{Ordered, In}
+use Rattle.dc_math.specs.Members.{Among}
+use Rattle.dc_math.specs.OrderedLists.{Ordered}
 use Rattle.dc_lp.specs.declared.Entry.{Entry}
 use Rattle.dc_lp.specs.Problems.{weight}
 use Rattle.dc_poly.specs.Terms as terms

@@ -5,8 +5,8 @@ use Rattle.std.specs.List.{AllByRecursion, range_with_len}
 use Rattle.std.proofs.Common.{refl, sym, ◌∙◌, ap, ap₂, subst, arith}
 use Rattle.std.proofs.lemmas.Int.{ints}
 use Rattle.std.proofs.lemmas.List.{length-replicate}
+use Rattle.dc_math.specs.Members.{each_all, each-++, each-map, each-flat_map}
 use Rattle.dc_math.specs.Rational.{of_ℤ}
-use Rattle.dc_math.specs.Cones.{Each}
 use Rattle.dc_lp.specs.declared.Entry.{Entry}
 use Rattle.dc_lp.specs.declared.Problem.{Problem}
 use Rattle.std.proofs.Math.Nat.{mul-le-mul_right}
@@ -23,7 +23,6 @@ use Rattle.dc_claims.specs.declared.duty.Unknown.TheVariants.{Bound, Coefficient
 use Rattle.dc_claims.specs.Duties.{Pair, Flags, duties_of}
 use Rattle.dc_claims.specs.Parts.{unknowns_at, unknowns_on, unknowns_of}
 use Rattle.dc_claims.specs.Problems.{Column, Plus, Minus, Times, both_signs, cost_in, cost_or_zero, Equation, products_at, multipliers_at, columns_of, equations_of, entry_of, entry_or_zero, right_of, right_or_zero, main_problem}
-use Rattle.dc_claims.proofs.Eaches.{each_all, each-++, each-map, each-flat_map}
 use Rattle.dc_claims.proofs.Owed.{occurs_at_most}
 use Rattle.dc_table.specs.declared.table.Table.{Table}
 use Rattle.dc_table.specs.Tables.{lists, IsProblemOf, equations_in, column_in, IsTable, IsWeighed, part_weight, product_weight}
@@ -50,23 +49,23 @@ index_all P (x ∷ xs) (suc i) z h d = index_all P xs i z h.1 d
 abbrev IsFree : Column → Type 0
 IsFree c = cost_in c ≡ pos 0
 
-zeros_are : (cs : List Column) → Each IsFree cs → map cost_in cs ≡ replicate (length cs) (pos 0)
+zeros_are : (cs : List Column) → AllByRecursion IsFree cs → map cost_in cs ≡ replicate (length cs) (pos 0)
 zeros_are [] h = refl
 zeros_are (c ∷ cs) h = ap₂ ◌∷◌ h.0 (zeros_are cs h.1)
 
 module _ (p : Pair) (d k : ℕ) (f : Flags) where
-  side_free : (side : Side) → Each (λ u. Each IsFree (both_signs u)) (unknowns_on p d side)
+  side_free : (side : Side) → AllByRecursion (λ u. AllByRecursion IsFree (both_signs u)) (unknowns_on p d side)
   side_free side =
-      each-flat_map (λ u. Each IsFree (both_signs u)) (unknowns_at p d side) _
-      (each_all _ _ (λ l. each-map (λ u. Each IsFree (both_signs u)) (Coefficient side l) _ (each_all _ _ (λ i. (refl, (refl, tt))))))
+      each-flat_map (λ u. AllByRecursion IsFree (both_signs u)) (unknowns_at p d side) _
+      (each_all _ _ (λ l. each-map (λ u. AllByRecursion IsFree (both_signs u)) (Coefficient side l) _ (each_all _ _ (λ i. (refl, (refl, tt))))))
 
   abbrev others : List Column
   others = flat_map both_signs (unknowns_on p d New ++ unknowns_on p d Old) ++ flat_map (multipliers_at p k) (duties_of f)
 
-  others_free : Each IsFree others
+  others_free : AllByRecursion IsFree others
   others_free =
       each-++ IsFree (flat_map both_signs (unknowns_on p d New ++ unknowns_on p d Old)) (flat_map (multipliers_at p k) (duties_of f))
-      (each-flat_map IsFree both_signs (unknowns_on p d New ++ unknowns_on p d Old) (each-++ (λ u. Each IsFree (both_signs u)) (unknowns_on p d New) (unknowns_on p d Old) (side_free New) (side_free Old)))
+      (each-flat_map IsFree both_signs (unknowns_on p d New ++ unknowns_on p d Old) (each-++ (λ u. AllByRecursion IsFree (both_signs u)) (unknowns_on p d New) (unknowns_on p d Old) (side_free New) (side_free Old)))
       (each-flat_map IsFree (multipliers_at p k) (duties_of f) (each_all _ (duties_of f) (λ o. each-map IsFree (Times o) _ (each_all _ (range_with_len 0 (length (products_at p k o))) (λ i. refl)))))
 
   columns_split : columns_of p d k f ≡ Plus Bound ∷ Minus Bound ∷ others

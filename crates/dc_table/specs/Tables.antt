@@ -2,7 +2,8 @@
 use Rattle.std.specs.Prelude.{◌≡◌, ℕ, ◌+◌, ◌-◌, ◌*◌, ◌≤◌, ◌^◌, List, [], ◌∷◌, ◌++◌, All, flat_map, length, map, replicate, ℤ, pos, negsuc, sum_by, unsigned_abs, Vec}
 use Rattle.std.specs.declared.alloc.Global.{Global}
 use Rattle.std.specs.List.{AllByRecursion}
-use Rattle.dc_math.specs.OrderedLists.{In, Ordered}
+use Rattle.dc_math.specs.Members.{Among}
+use Rattle.dc_math.specs.OrderedLists.{Ordered}
 use Rattle.dc_lp.specs.declared.Entry.{Entry}
 use Rattle.dc_lp.specs.declared.Problem.{Problem}
 use Rattle.dc_lp.specs.Problems.{weight}
@@ -43,7 +44,7 @@ extended (c ∷ cs) (e ∷ es) = (c ++ e) ∷ extended cs es
 -- ---- blocks
 -- each of a polynomial's monomials stands in a list
 abbrev pub AreListed : List Exponents → Polynomial → Type 0
-AreListed ms q = AllByRecursion (λ (t : Term). In t.mono ms) q.terms
+AreListed ms q = AllByRecursion (λ (t : Term). Among t.mono ms) q.terms
 
 pub record IsSound (b : Block) : Type 0 where
   pub in_order : Ordered Before b.monos.items

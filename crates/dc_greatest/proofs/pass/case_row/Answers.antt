@@ -1,8 +1,8 @@
 -- A row of the entry.
 use Rattle.std.specs.Prelude.{◌≡◌, ◌<◌, not, is_some, [], length, take, slice_index_or, None}
 use Rattle.std.proofs.Common.{sym, ◌∙◌, ap, subst, arith}
+use Rattle.dc_math.specs.Members.{Among, at_among}
 use Rattle.dc_affine.specs.declared.atom.Atom.{Atom}
-use Rattle.dc_graph.specs.Members.{Among}
 use Rattle.dc_points.specs.Points.{Entails, IsDead}
 use Rattle.std.proofs.lemmas.List.{get_or_default}
 use Rattle.dc_points.specs.Stated.{rational, sup_problem}
@@ -10,7 +10,6 @@ use Rattle.dc_entail.specs.Answers.{IsSolveFault}
 use Rattle.dc_rows.specs.Candidate.{row_at, bound_at}
 use Rattle.dc_families.specs.Families.{bounded, least_in}
 use Rattle.dc_families.specs.Moves.{at_start}
-use Rattle.dc_families.proofs.Lists.{at_among}
 use Rattle.dc_greatest.specs.declared.family.LocFamily.{LocFamily}
 use Rattle.dc_greatest.specs.Answers.{IsFault}
 use Rattle.dc_greatest.specs.Bounds.{IsLeast, HasEnd, IsRowLowered}

@@ -2,17 +2,16 @@
 use Rattle.std.specs.Prelude.{◌≡◌, ◌<◌, ◌^◌, true, false, [], length, take, sum_by, unsigned_abs, slice_index_or}
 use Rattle.std.proofs.Common.{sym, ◌∙◌, ap, subst, inl, arith}
 use Rattle.std.proofs.lemmas.Result.{IfOk-weaker, IfErr-weaker}
+use Rattle.dc_math.specs.Members.{each_among, at_among}
 use Rattle.dc_system.specs.After.{is_affine_after, row_after_of}
 use Rattle.dc_system.specs.declared.rows.RowAfter.{RowAfter}
 use Rattle.dc_system.specs.Shapes.{IsEdge}
-use Rattle.dc_system.proofs.Lists.{each_among}
 use Rattle.dc_affine.specs.Atoms.{AllAtoms, IsAtom}
 use Rattle.dc_points.specs.Points.{IsDead}
 use Rattle.dc_points.specs.Stated.{rational}
 use Rattle.dc_entail.specs.Answers.{IsSolveFault}
 use Rattle.dc_greatest.specs.Bounds.{HasEnd}
 use Rattle.dc_rows.specs.Candidate.{row_at, IsRow}
-use Rattle.dc_families.proofs.Lists.{at_among}
 use Rattle.dc_moves.proofs.Forms.{forms_have_places}
 use Rattle.dc_greatest.specs.Lent.{graph, family}
 use Rattle.dc_greatest.proofs.Bridges.{shapes_are_families}

@@ -1,9 +1,9 @@
 -- A row of an edge's target.
 use Rattle.std.specs.Prelude.{◌≡◌, ◌<◌, not, is_some, length, slice_index_or, None}
 use Rattle.std.proofs.Common.{rules, sym, ◌∙◌, ap, subst, arith}
+use Rattle.dc_math.specs.Members.{each_among}
 use Rattle.dc_system.specs.Shapes.{IsEdge, IsWithin as EndsWithin}
 use Rattle.dc_system.specs.After.{is_affine_after}
-use Rattle.dc_system.proofs.Lists.{each_among}
 use Rattle.dc_rows.specs.Candidate.{row_at}
 use Rattle.dc_families.specs.Families.{least_in}
 use Rattle.dc_families.specs.Rounds.{EdgeGives}

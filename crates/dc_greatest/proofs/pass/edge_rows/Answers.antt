@@ -3,9 +3,9 @@ use Rattle.std.specs.Prelude.{◌≡◌, ◌<◌, ◌≤◌, is_some, length, sl
 use Rattle.std.specs.List.{range_with_len}
 use Rattle.std.proofs.Common.{sym, ◌∙◌, ap, subst, arith, add-one}
 use Rattle.std.proofs.lemmas.List.{get_or_default}
+use Rattle.dc_math.specs.Members.{each_among}
 use Rattle.dc_system.specs.After.{is_affine_after}
 use Rattle.dc_system.specs.Shapes.{IsWithin as EndsWithin}
-use Rattle.dc_system.proofs.Lists.{each_among}
 use Rattle.dc_entail.specs.Asked.{AllDone}
 use Rattle.dc_rows.specs.Candidate.{row_at}
 use Rattle.dc_families.specs.Families.{least_in}

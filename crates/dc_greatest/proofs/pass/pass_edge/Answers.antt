@@ -2,9 +2,9 @@
 use Rattle.std.specs.Prelude.{◌≡◌}
 use Rattle.std.proofs.Common.{rules, sym, ◌∙◌, ap, subst, arith}
 use Rattle.std.proofs.lemmas.Result.{IfErr-weaker}
+use Rattle.dc_math.specs.Members.{each_among}
 use Rattle.dc_affine.specs.Atoms.{AllAtoms, IsAtom}
 use Rattle.dc_system.specs.Shapes.{IsEdge, IsWithin as EndsWithin}
-use Rattle.dc_system.proofs.Lists.{each_among}
 use Rattle.dc_points.specs.Points.{IsDead, MeetsAll}
 use Rattle.dc_points.specs.Stated.{rational}
 use Rattle.dc_entail.specs.Answers.{IsSolveFault}
