@@ -7,7 +7,7 @@ ghost use Rattle.std.specs.Int.{w64, trailing_zeros};
 ghost use Rattle.dc_frac.specs.Fits.{IsSmall};
 ghost use Rattle.dc_frac.specs.Parts.{IsOddPart};
 
-const WORD: u128 = 0xffff_ffff_ffff_ffff;
+pub(crate) const WORD: u128 = 0xffff_ffff_ffff_ffff;
 
 // what is left of a number that is halved until it is odd
 fn odd_part(a: u64) -> u64

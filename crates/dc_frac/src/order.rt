@@ -6,9 +6,8 @@ ghost use Rattle.dc_math.specs.Rational.{◌<ℚ◌};
 ghost use Rattle.dc_frac.specs.Value.{value};
 
 use crate::Frac;
+use crate::gcd::WORD;
 use std::cmp::Ordering;
-
-const WORD: u128 = 0xffff_ffff_ffff_ffff;
 
 // a/b against c/d by whole parts, and where these are equal by the remainders: r/b is below s/d
 // where d/s is below b/r. Products of words can't overflow, so those are compared at once, which

@@ -1,7 +1,7 @@
 -- The number of choices goes by Pascal's rule, so one division gives the next number.
 use Rattle.std.specs.Prelude.{◌≡◌, ℕ, zero, suc, ◌+◌, ◌*◌, ◌≤◌, List, [], ◌∷◌, map, length, refl}
 use Rattle.std.proofs.Common.{◌∙◌, ap, ap₂, arith, length-append}
-use Rattle.dc_math.specs.OrderedLists.{length-map}
+use Rattle.std.proofs.lemmas.List.{length-map}
 use Rattle.dc_math.specs.Pascal as pascals
 use Rattle.dc_math.specs.Pascal.{IsPascal}
 use Rattle.dc_poly.proofs.Sizes.{mul_both}
@@ -12,11 +12,11 @@ widened-same : (a b : ℕ) (f g : ℕ → List Choice) → ((k : ℕ) → length
 widened-same a b f g h zero = refl
 widened-same a b f g h (suc k) =
     length-append (map (λ c. a ∷ c) (widened a f k)) (f (suc k))
-    ∙ ap₂ ◌+◌ (length-map (λ c. a ∷ c) (widened a f k) ∙ widened-same a b f g h k) (h (suc k))
+    ∙ ap₂ ◌+◌ (length-map (widened a f k) (λ c. a ∷ c) ∙ widened-same a b f g h k) (h (suc k))
     ∙ back
   where
     back : length (widened b g k) + length (g (suc k)) ≡ length (widened b g (suc k))
-    back = (let x = length-append (map (λ c. b ∷ c) (widened b g k)) (g (suc k)) in let y = length-map (λ c. b ∷ c) (widened b g k) in omega arith)
+    back = (let x = length-append (map (λ c. b ∷ c) (widened b g k)) (g (suc k)) in let y = length-map (widened b g k) (λ c. b ∷ c) in omega arith)
 
 same : (n a b k : ℕ) → length (of_size n a k) ≡ length (of_size n b k)
 same zero a b zero = refl
@@ -29,7 +29,7 @@ below_more n k = length-append (below n k) (of_size n 0 k)
 next_more : (n k : ℕ) → length (of_size (suc n) 0 (suc k)) ≡ length (of_size (suc n) 0 k) + length (of_size n 0 (suc k))
 next_more n k =
     let a = length-append (map (λ c. 0 ∷ c) (of_size (suc n) 0 k)) (of_size n 1 (suc k)) in
-    let b = length-map (λ c. 0 ∷ c) (of_size (suc n) 0 k) in
+    let b = length-map (of_size (suc n) 0 k) (λ c. 0 ∷ c) in
     let d = same n 1 0 (suc k) in
     omega arith
 
