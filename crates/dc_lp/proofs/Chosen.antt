@@ -80,11 +80,23 @@ module _ (Q : Type 0) (F : Field Q) where
         | inr h ↦ (let le : slice_index t.basis k ≤ slice_index t.basis i = ltb-false (slice_index t.basis i) (slice_index t.basis k) h in record { best = up; tie = λ x. le })
       ]
 
-  -- of the first n rows with a positive entry, r leads
+  -- a row that goes before another and ties with it has the lesser basic column
+  before-strict : (t : Table Q) (j i k : ℕ) → goes_before Q F t j i k ≡ true → nonneg Q F (minus Q F (ratio_of Q F t j i) (ratio_of Q F t j k)) ≡ true → slice_index t.basis i < slice_index t.basis k
+  unfolding goes_before
+  before-strict t j i k e x =
+      let f : ℕ → Q = ratio_of Q F t j in
+      elim (or_cases (is_below Q F (f i) (f k)) (not (is_below Q F (f k) (f i)) && nat_lt (slice_index t.basis i) (slice_index t.basis k)) e) [
+        | inl h ↦ absurd (both_ways (nonneg Q F (minus Q F (f i) (f k))) (below-true (f i) (f k) h) x)
+        | inr h ↦ ltb-true (slice_index t.basis i) (slice_index t.basis k) (and_parts (not (is_below Q F (f k) (f i))) (nat_lt (slice_index t.basis i) (slice_index t.basis k)) h).1
+      ]
+
+  -- of the first n rows with a positive entry, r leads, and is the first of those that lead
   pub record IsBest (t : Table Q) (j n r : ℕ) : Type 0 where
     pub below : r < n
     pub positive : nonneg Q F (F.neg (at Q F t r j)) ≡ false
     pub leads : (i : ℕ) → i < n → nonneg Q F (F.neg (at Q F t i j)) ≡ false → Leads t j r i
+    pub first : (i : ℕ) → i < r → nonneg Q F (F.neg (at Q F t i j)) ≡ false
+        → nonneg Q F (minus Q F (ratio_of Q F t j r) (ratio_of Q F t j i)) ≡ true → slice_index t.basis r < slice_index t.basis i
 
   best-none : (t : Table Q) (j n : ℕ) → best_below Q F t j n ≡ None → (i : ℕ) → i < n → nonneg Q F (F.neg (at Q F t i j)) ≡ true
   best-none t j zero e i l = absurd (omega arith)
@@ -109,6 +121,7 @@ module _ (Q : Type 0) (F : Field Q) where
           | inl here ↦ subst (λ x. Leads t j r x) (sym (here ∙ same)) (leads-self t j r)
           | inr ne ↦ absurd (both_ways (nonneg Q F (F.neg (at Q F t i j))) h (best-none t j n b i (omega arith)))
         ];
+        first = λ i l h x. absurd (both_ways (nonneg Q F (F.neg (at Q F t i j))) h (best-none t j n b i (omega arith)));
       })
   best-more t j n r p (Some k) b ih e =
       let old : IsBest t j n k = ih k b in
@@ -123,6 +136,13 @@ module _ (Q : Type 0) (F : Field Q) where
                 | inl here ↦ subst (λ x. Leads t j r x) (sym (here ∙ same)) (leads-self t j r)
                 | inr ne ↦ subst (λ x. Leads t j x i) same (leads-then t j n k i lead (old.leads i (omega arith) h))
               ];
+              first = λ i l h x.
+                  let f : ℕ → Q = ratio_of Q F t j in
+                  let y : nonneg Q F (minus Q F (f n) (f i)) ≡ true = ap (λ z. nonneg Q F (minus Q F (f z) (f i))) same ∙ x in
+                  let under : Leads t j k i = old.leads i (omega arith) h in
+                  let up : slice_index t.basis n < slice_index t.basis k = before-strict t j n k g (two-steps (f n) (f i) (f k) y under.best) in
+                  let on : slice_index t.basis k ≤ slice_index t.basis i = under.tie (two-steps (f k) (f n) (f i) lead.best y) in
+                  subst (λ z. slice_index t.basis z < slice_index t.basis i) same (let l : slice_index t.basis n < slice_index t.basis i = omega arith in l);
             })
         | inr g ↦ (let f : ◌≡◌ {A = Option ℕ} (Some k) (Some r) = rw g at e in let same : k ≡ r = (cc) in
             record {
@@ -132,6 +152,8 @@ module _ (Q : Type 0) (F : Field Q) where
                 | inl here ↦ subst (λ x. Leads t j r x) (sym here) (subst (λ x. Leads t j x n) same (not_before-leads t j n k g))
                 | inr ne ↦ subst (λ x. Leads t j x i) same (old.leads i (omega arith) h)
               ];
+              first = λ i l h x. subst (λ z. slice_index t.basis z < slice_index t.basis i) same
+                  (old.first i (omega arith) h (ap (λ z. nonneg Q F (minus Q F (ratio_of Q F t j z) (ratio_of Q F t j i))) same ∙ x));
             })
       ]
 
@@ -147,6 +169,7 @@ module _ (Q : Type 0) (F : Field Q) where
             | inl here ↦ absurd (both_ways (nonneg Q F (F.neg (at Q F t i j))) h (ap (λ x. nonneg Q F (F.neg (at Q F t x j))) here ∙ positive-false (at Q F t n j) p))
             | inr ne ↦ old.leads i (omega arith) h
           ];
+          first = old.first;
         })
   ]
 

@@ -1,5 +1,5 @@
 -- The fill of a pivot is the number of gaps at the crossings of its column and its row.
-use Rattle.std.specs.Prelude.{◌≡◌, ◌≢◌, ℕ, zero, suc, ◌+◌, ◌<◌, ◌≤◌, ◌==◌, pos, length, Bool, true, false, not, ◌&&◌, cond, slice_index_or, [], ◌∷◌}
+use Rattle.std.specs.Prelude.{◌≡◌, ◌≢◌, ℕ, ◌+◌, ◌<◌, ◌≤◌, ◌==◌, pos, length, Bool, true, false, not, ◌&&◌, slice_index_or, [], ◌∷◌}
 use Rattle.std.proofs.Math.ListN.{length-set}
 use Rattle.std.proofs.Common.{refl, sym, ◌∙◌, ap, ap₂, subst, inl, inr, arith}
 use Rattle.std.proofs.lemmas.Bool.{cases_Bool, eqb-true}
@@ -14,8 +14,9 @@ use Rattle.dc_math.specs.Tests.{eq_ℚ-true, eq_ℚ_true, eq_ℚ_false, is_zero}
 use Rattle.dc_lp.specs.Tables as tables
 use Rattle.dc_lp.specs.Tables.{Table}
 use Rattle.dc_lp.specs.Meanings.{at, height, width, pivoted, divided, IsPivotPlace}
-use Rattle.dc_lp.specs.Fill.{is_filled, meets_gap, count_below, count_places, fill, gaps, entry_count}
+use Rattle.dc_lp.specs.Fill.{is_filled, meets_gap, count_places, fill, gaps, entry_count}
 use Rattle.dc_lp.specs.Laws.{Fills, EntriesGrow}
+use Rattle.dc_lp.proofs.Counts.{one_if, count_places-same, count_places-sum}
 
 zero-is : (x : ℚ) → is_zero x ≡ true → x ≡ of_ℤ (pos 0)
 zero-is x e = eq_ℚ_true x (of_ℤ (pos 0)) e
@@ -81,38 +82,19 @@ module _ (t : Table ℚ) (r j : ℕ) (h : IsPivotPlace t r j) where
       and_false true = refl
       and_false false = refl
 
-  same_below : (f g : ℕ → Bool) (n : ℕ) → ((k : ℕ) → k < n → f k ≡ g k) → count_below n f ≡ count_below n g
-  same_below f g zero e = refl
-  same_below f g (suc n) e = ap₂ ◌+◌ (same_below f g n (λ k l. e k (omega arith))) (ap (λ b. cond b 1 0) (e n (omega arith)))
-
-  same_places : (f g : ℕ → ℕ → Bool) (m w : ℕ) → ((i k : ℕ) → i < m → k < w → f i k ≡ g i k) → count_places m w f ≡ count_places m w g
-  same_places f g zero w e = refl
-  same_places f g (suc m) w e = ap₂ ◌+◌ (same_places f g m w (λ i k li lk. e i k (omega arith) lk)) (same_below (f m) (g m) w (λ k lk. e m k (omega arith) lk))
-
   number : fill t r j ≡ gaps t r j
   unfolding fill gaps
-  number = same_places (is_filled t r j) (meets_gap t r j) (height t) (width t) each
+  number = count_places-same (is_filled t r j) (meets_gap t r j) (height t) (width t) each
 
 pub fills : Fills
 fills t r j h = record { each = each t r j h; number = number t r j h }
 
 -- ---- how many entries there are
-abbrev one_if : Bool → ℕ
-one_if b = cond b 1 0
-
 one_more : (a b : Bool) → one_if (not b) ≤ one_if (not a) + one_if (a && not b)
 one_more true true = omega arith
 one_more true false = omega arith
 one_more false true = omega arith
 one_more false false = omega arith
-
-below_more : (f g h : ℕ → Bool) (n : ℕ) → ((k : ℕ) → one_if (f k) ≤ one_if (g k) + one_if (h k)) → count_below n f ≤ count_below n g + count_below n h
-below_more f g h zero e = omega arith
-below_more f g h (suc n) e = omega (arith, below_more f g h n e, e n)
-
-places_more : (f g h : ℕ → ℕ → Bool) (m w : ℕ) → ((i k : ℕ) → one_if (f i k) ≤ one_if (g i k) + one_if (h i k)) → count_places m w f ≤ count_places m w g + count_places m w h
-places_more f g h zero w e = omega arith
-places_more f g h (suc m) w e = omega (arith, places_more f g h m w e, below_more (f m) (g m) (h m) w (e m))
 
 basis-long : (t : Table ℚ) (r j : ℕ) → length (pivoted t r j).basis ≡ length t.basis
 unfolding tables.pivoted
@@ -127,4 +109,4 @@ unfolding entry_count fill
 entries_grow t r j =
     subst (λ n. n ≤ count_places (height t) (width t) (λ i k. not (is_zero (at t i k))) + count_places (height t) (width t) (is_filled t r j))
     (ap₂ (λ h w. count_places h w (λ i k. not (is_zero (at (pivoted t r j) i k)))) (ap (λ n. n + 2) (sym (basis-long t r j))) (ap₂ (λ a n. a + n + 1) (sym (pivoted-real t r j)) (sym (basis-long t r j))))
-    (places_more (λ i k. not (is_zero (at (pivoted t r j) i k))) (λ i k. not (is_zero (at t i k))) (is_filled t r j) (height t) (width t) (λ i k. one_more (is_zero (at t i k)) (is_zero (at (pivoted t r j) i k))))
+    (count_places-sum (λ i k. not (is_zero (at (pivoted t r j) i k))) (λ i k. not (is_zero (at t i k))) (is_filled t r j) (height t) (width t) (λ i k. one_more (is_zero (at t i k)) (is_zero (at (pivoted t r j) i k))))

@@ -5,6 +5,7 @@ pub mod FoldSums
 pub mod Duality
 pub mod Chosen
 pub mod Choices
+pub mod Counts
 pub mod Fills
 pub mod Folding
 pub mod Checking

@@ -1,5 +1,5 @@
 -- Which column enters and which row leaves, in the words of the simplex method.
-use Rattle.std.specs.Prelude.{◌≡◌, ℕ, ◌<◌, ◌≤◌, pos, length, slice_index}
+use Rattle.std.specs.Prelude.{◌≡◌, ◌≢◌, ℕ, ◌<◌, ◌≤◌, pos, length, slice_index}
 use Rattle.dc_math.specs.Rational.{ℚ, of_ℤ, ◌≤ℚ◌, ◌<ℚ◌, NonNegative}
 use Rattle.dc_math.specs.RationalField.{rationals}
 use Rattle.dc_lp.specs.Tables as tables
@@ -23,18 +23,15 @@ abbrev pub NoneEnters : Table ℚ → ℕ → Type 0
 NoneEnters t i = (k : ℕ) → k < t.real → NonNegative (at t i k)
 
 -- row r of an equation has a positive entry in column j; of the rows that have one, none has a
--- lesser quotient, and none that ties has a lesser basic column
+-- lesser quotient, none that ties has a lesser basic column, and none before it ties with the same
 pub record Leaves (t : Table ℚ) (j r : ℕ) : Type 0 where
   pub row : r < length t.basis
   pub positive : IsPositiveIn t j r
   pub least : (i : ℕ) → i < length t.basis → IsPositiveIn t j i → ratio_of t j r ≤ℚ ratio_of t j i
   pub ties : (i : ℕ) → i < length t.basis → IsPositiveIn t j i → ratio_of t j i ≡ ratio_of t j r
       → slice_index t.basis r ≤ slice_index t.basis i
+  pub first : (i : ℕ) → i < r → IsPositiveIn t j i → ratio_of t j i ≡ ratio_of t j r
+      → slice_index t.basis i ≢ slice_index t.basis r
 
 abbrev pub NoneLeaves : Table ℚ → ℕ → Type 0
 NoneLeaves t j = (i : ℕ) → i < length t.basis → at t i j ≤ℚ of_ℤ (pos 0)
-
--- no column is basic in two rows
-abbrev pub HasApartBasis : Table ℚ → Type 0
-HasApartBasis t = (i k : ℕ) → i < length t.basis → k < length t.basis
-    → slice_index t.basis i ≡ slice_index t.basis k → i ≡ k

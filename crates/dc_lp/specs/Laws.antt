@@ -5,7 +5,7 @@ use Rattle.dc_lp.specs.Linear.{Linear, combined_right, cost_of, IsDual, IsRefuta
 use Rattle.dc_lp.specs.Folds.{folded, folded_over, IsFitSum}
 use Rattle.dc_lp.specs.Tables.{Table}
 use Rattle.dc_lp.specs.Meanings.{IsPivotPlace, entering, ratio_row, pivoted}
-use Rattle.dc_lp.specs.Choices.{Enters, NoneEnters, Leaves, NoneLeaves, HasApartBasis}
+use Rattle.dc_lp.specs.Choices.{Enters, NoneEnters, Leaves, NoneLeaves}
 use Rattle.dc_lp.specs.Fill.{FillIsGaps, fill, entry_count}
 
 -- the right side of a dual is below the cost of each solution; where they are equal, no solution
@@ -37,12 +37,9 @@ ColumnEnters = (t : Table ℚ) (i j : ℕ) → (entering t i ≡ Some j) ↔ Ent
 abbrev pub NoColumnEnters : Type 0
 NoColumnEnters = (t : Table ℚ) (i : ℕ) → (entering t i ≡ None) ↔ NoneEnters t i
 
--- the row that leaves; where no column is basic twice there is one such row at most; and that none does
+-- the row that leaves, and that none does
 abbrev pub RowLeaves : Type 0
-RowLeaves = (t : Table ℚ) (j r : ℕ) → ratio_row t j ≡ Some r → Leaves t j r
-
-abbrev pub OneRowLeaves : Type 0
-OneRowLeaves = (t : Table ℚ) (j r : ℕ) → HasApartBasis t → Leaves t j r → ratio_row t j ≡ Some r
+RowLeaves = (t : Table ℚ) (j r : ℕ) → (ratio_row t j ≡ Some r) ↔ Leaves t j r
 
 abbrev pub NoRowLeaves : Type 0
 NoRowLeaves = (t : Table ℚ) (j : ℕ) → (ratio_row t j ≡ None) ↔ NoneLeaves t j

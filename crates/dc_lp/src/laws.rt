@@ -1,6 +1,6 @@
 //! Laws of linear problems over the rational numbers, for vectors of any numbers.
 
-ghost use Rattle.dc_lp.specs.Laws.{WeakDuality, BestByDual, RefutationExcludes, RayGoesOn, Fills, EntriesGrow, ColumnEnters, NoColumnEnters, RowLeaves, OneRowLeaves, NoRowLeaves, SumsFit, LeavesOut};
+ghost use Rattle.dc_lp.specs.Laws.{WeakDuality, BestByDual, RefutationExcludes, RayGoesOn, Fills, EntriesGrow, ColumnEnters, NoColumnEnters, RowLeaves, NoRowLeaves, SumsFit, LeavesOut};
 
 /// Weak duality: a solution costs at least the right side of each dual. So a solution whose cost is
 /// the right side of a dual is a best one.
@@ -34,13 +34,12 @@ pub fn entering()
     ensures none { NoColumnEnters }
 {}
 
-/// The row that leaves has a positive entry in the column; of the rows that have one, none has a
-/// lesser quotient of right side by entry, and none that ties has a lesser basic column. Where no
-/// column is basic in two rows, the only row of which that holds leaves. None leaves exactly where
-/// no entry of the column is positive.
+/// The row that leaves is the one with a positive entry in the column such that, of the rows that
+/// have one, none has a lesser quotient of right side by entry, none that ties has a lesser basic
+/// column, and none before it ties with the same. None leaves exactly where no entry of the column is
+/// positive.
 pub fn leaving()
     ensures row { RowLeaves }
-    ensures one { OneRowLeaves }
     ensures none { NoRowLeaves }
 {}
 

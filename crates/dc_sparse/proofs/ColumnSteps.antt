@@ -13,7 +13,7 @@ use Rattle.dc_sparse.specs.Entries.{entry_at}
 use Rattle.dc_sparse.specs.Rows.{row_gaps, rows_gaps}
 use Rattle.dc_sparse.proofs.Links.{next_first}
 use Rattle.dc_sparse.proofs.Entries.{entry-node, entry-vacant, item-live}
-use Rattle.dc_sparse.proofs.PlaceCounts.{count_below-same, count_below-none, count_places-none}
+use Rattle.dc_lp.proofs.Counts.{count_below-same, count_below-none, count_places-none}
 
 -- above the next node of a column its entries are 0
 pub gap_above : (xs : List Node) (col n : ℕ) (o : Option ℕ) → IsFirst (by_columns xs) col n o → (i : ℕ) → n ≤ i → ((m : ℕ) → o ≡ Some m → i < row_at xs m) → is_zero (entry_at xs i col) ≡ true

@@ -13,7 +13,7 @@ use Rattle.dc_sparse.specs.Rows.{steps_fit, stepped_at, row_fits, rows_fit, redu
 use Rattle.dc_sparse.proofs.Links.{next_first}
 use Rattle.dc_sparse.proofs.Entries.{entry-node, item-live}
 use Rattle.dc_sparse.proofs.ColumnSteps.{gap_above}
-use Rattle.dc_sparse.proofs.PlaceCounts.{all_below-on, count_below-same, count_places-on}
+use Rattle.dc_lp.proofs.Counts.{all_below-on, count_below-same, count_places-on}
 
 -- ---- a walk down a column, over a row that changes
 

@@ -1,4 +1,3 @@
-pub mod PlaceCounts
 pub mod Lines
 pub mod Cells
 pub mod Links

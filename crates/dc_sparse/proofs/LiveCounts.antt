@@ -13,7 +13,7 @@ use Rattle.dc_sparse.specs.Entries.{share, entry_at}
 use Rattle.dc_sparse.specs.Sizes.{held_count, live_count}
 use Rattle.dc_sparse.proofs.Entries.{entry-vacant, gives-elsewhere, gives-here, gives-dead, nothing_more, nothing_else}
 use Rattle.dc_sparse.proofs.FreeCounts.{free_count-cons, weight-live, weight-dead}
-use Rattle.dc_sparse.proofs.PlaceCounts.{count_places-empty, count_places-more, count_places-same}
+use Rattle.dc_lp.proofs.Counts.{count_places-empty, count_places-more, count_places-same}
 
 -- the nodes stand within h rows and w columns, no two at one place
 record AreSpread (xs : List Node) (h w : ℕ) : Type 0 where

@@ -10,7 +10,7 @@ use Rattle.dc_lp.proofs.Belows.{all_below-same}
 use Rattle.dc_start.specs.Changes.{step_fits}
 use Rattle.dc_sparse.specs.Rows.{row_fits, rows_fit, reduced_at, RowsAreReduced, gaps_in_rows}
 use Rattle.dc_sparse.specs.Pivots.{quotients_fit, entries_fit, ArePivoted}
-use Rattle.dc_sparse.proofs.PlaceCounts.{count_places-same}
+use Rattle.dc_lp.proofs.Counts.{count_places-same}
 use Rattle.dc_sparse.proofs.Quotients.{zero_by, quotient-nonzero}
 
 nothing_left : (y p i : ℚ) → p *ℚ i ≡ of_ℤ (pos 1) → y +ℚ neg_ℚ (y *ℚ (p *ℚ i)) ≡ of_ℤ (pos 0)

@@ -15,7 +15,7 @@ use Rattle.dc_sparse.specs.Entries.{entry_at, StandsAt, IsPut, KeepsPlaces}
 use Rattle.dc_sparse.specs.Rows.{divisions_fit, AreDivided, KeepsRows}
 use Rattle.dc_sparse.proofs.Links.{next_first}
 use Rattle.dc_sparse.proofs.Entries.{entry-node, item-live}
-use Rattle.dc_sparse.proofs.PlaceCounts.{all_below-on}
+use Rattle.dc_lp.proofs.Counts.{all_below-on}
 use Rattle.dc_sparse.proofs.RowSteps.{gap_before}
 
 -- ---- quotients that are 0

@@ -18,7 +18,7 @@ use Rattle.dc_sparse.specs.Rows.{reductions_fit, entry_after, reduced_entry, row
 use Rattle.dc_sparse.specs.Scales.{IsWhole, AreSmall}
 use Rattle.dc_sparse.proofs.Links.{next_first}
 use Rattle.dc_sparse.proofs.Entries.{entry-vacant, entry-node, item-live}
-use Rattle.dc_sparse.proofs.PlaceCounts.{all_below-on, count_below-on, count_below-none}
+use Rattle.dc_lp.proofs.Counts.{all_below-on, count_below-on, count_below-none}
 
 -- ---- a row on its way: columns 0 to n - 1 are reduced
 

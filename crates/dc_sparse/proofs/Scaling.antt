@@ -16,7 +16,7 @@ use Rattle.dc_sparse.specs.Entries.{entry_at}
 use Rattle.dc_sparse.specs.Rows.{divisions_fit, AreDivided}
 use Rattle.dc_sparse.specs.Scales.{IsWhole, IsDen, scale_at, den_of, IsScaled, AreScaled, AreFractions, scaled_at}
 use Rattle.dc_sparse.proofs.Entries.{entry-vacant}
-use Rattle.dc_sparse.proofs.PlaceCounts.{all_below-on}
+use Rattle.dc_lp.proofs.Counts.{all_below-on}
 use Rattle.dc_sparse.proofs.Quotients.{zero_by}
 use Rattle.dc_sparse.proofs.Wholes.{zero_test, is_zero-zero, is_zero-/ℚ, is_negative-/ℚ, by_one, over_within}
 

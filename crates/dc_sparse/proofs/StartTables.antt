@@ -18,7 +18,7 @@ use Rattle.dc_start.specs.Starts.{columns, width, start_value}
 use Rattle.dc_sparse.specs.Fills.{IsFilled, IsFilling, IsPartOf, IsStarted}
 use Rattle.dc_sparse.proofs.Tables.{made-same}
 use Rattle.dc_sparse.proofs.Entries.{vacant-zero}
-use Rattle.dc_sparse.proofs.PlaceCounts.{count_places-least}
+use Rattle.dc_lp.proofs.Counts.{count_places-least}
 
 grid-start : (p : Problem) (e : ℕ → ℕ → ℚ) → IsStarted p e → grid (p.rows + 2) (width p) e ≡ (start p).rows
 unfolding grid tables.start

@@ -18,7 +18,7 @@ use Rattle.dc_lp.specs.Fill.{gaps, meets_gap, count_places, entry_count}
 use Rattle.dc_sparse.specs.Sizes.{held_count}
 use Rattle.dc_sparse.specs.Pivots.{grid, entries_fit, pivoted_at, ArePivoted}
 use Rattle.dc_lp.proofs.Firsts.{none-index, some-index}
-use Rattle.dc_sparse.proofs.PlaceCounts.{count_places-same}
+use Rattle.dc_lp.proofs.Counts.{count_places-same}
 
 pub grid-at : (h w : ℕ) (e : ℕ → ℕ → ℚ) (i k : ℕ) → i < h → k < w → slice_index_or (slice_index_or (grid h w e) i []) k (of_ℤ (pos 0)) ≡ e i k
 unfolding grid

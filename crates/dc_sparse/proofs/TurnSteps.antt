@@ -14,7 +14,7 @@ use Rattle.dc_sparse.specs.Rows.{reductions_fit, row_gaps, entry_after, steps_fi
 use Rattle.dc_sparse.specs.Pivots.{quotients_fit}
 use Rattle.dc_sparse.specs.Scales.{scale_at, den_of, scaled_at}
 use Rattle.dc_sparse.specs.Held.{held_at, KeepsSizes, KeepsOthers}
-use Rattle.dc_sparse.proofs.PlaceCounts.{count_below-same}
+use Rattle.dc_lp.proofs.Counts.{count_below-same}
 use Rattle.dc_sparse.proofs.Wholes.{both_parted}
 use Rattle.dc_sparse.proofs.Scaling.{den_of-nonzero}
 use Rattle.dc_sparse.proofs.HeldEntries.{held-zero, held-none, held-kept}

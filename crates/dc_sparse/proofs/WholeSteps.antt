@@ -21,7 +21,7 @@ use Rattle.dc_sparse.specs.Entries.{entry_at}
 use Rattle.dc_sparse.specs.Rows.{reductions_fit, entry_after, steps_fit, stepped_at}
 use Rattle.dc_sparse.specs.Scales.{IsWhole, AreSmall, scale_at}
 use Rattle.dc_sparse.specs.Held.{held_at}
-use Rattle.dc_sparse.proofs.PlaceCounts.{all_below-on}
+use Rattle.dc_lp.proofs.Counts.{all_below-on}
 use Rattle.dc_sparse.proofs.Quotients.{zero_by}
 use Rattle.dc_sparse.proofs.Wholes.{whole_small, whole_zero, nonzero, zero_test, is_zero-zero, is_zero-/ℚ, whole_of, whole-*ℚ, whole_steps, over_within, steps_within, stepped_fits, den_nonzero}
 use Rattle.dc_sparse.proofs.Scaling.{beyond}

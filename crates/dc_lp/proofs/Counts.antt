@@ -109,3 +109,15 @@ count_places-least f g (suc m) w h =
     let r = count_places-least f g m w (λ i k li lk. h i k (omega arith) lk) in
     let t = count_below-least (f m) (g m) w (λ k lk. h m k (omega arith) lk) in
     omega arith
+
+-- what passes f passes g or h
+abbrev pub one_if : Bool → ℕ
+one_if b = cond b 1 0
+
+pub count_below-sum : (f g h : ℕ → Bool) (n : ℕ) → ((k : ℕ) → one_if (f k) ≤ one_if (g k) + one_if (h k)) → count_below n f ≤ count_below n g + count_below n h
+count_below-sum f g h zero e = omega arith
+count_below-sum f g h (suc n) e = omega (arith, count_below-sum f g h n e, e n)
+
+pub count_places-sum : (f g h : ℕ → ℕ → Bool) (m w : ℕ) → ((i k : ℕ) → one_if (f i k) ≤ one_if (g i k) + one_if (h i k)) → count_places m w f ≤ count_places m w g + count_places m w h
+count_places-sum f g h zero w e = omega arith
+count_places-sum f g h (suc m) w e = omega (arith, count_places-sum f g h m w e, count_below-sum (f m) (g m) (h m) w (e m))
