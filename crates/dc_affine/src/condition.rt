@@ -92,7 +92,7 @@ fn opposite(rel: Rel) -> Rel
 }
 
 // The comparison, or where negated its opposite.
-fn turned(rel: Rel, negated: bool) -> Rel
+fn opposite_if(rel: Rel, negated: bool) -> Rel
     ensures { result ≡ (if negated then opposite_of rel else rel) }
 {
     if negated { opposite(rel) } else { rel }
@@ -115,7 +115,7 @@ fn width(c: &Cond, negated: bool) -> usize
     match c {
         Cond::True => 1,
         Cond::False => 1,
-        Cond::Cmp(_, rel, _) => relation_width(turned(*rel, negated)),
+        Cond::Cmp(_, rel, _) => relation_width(opposite_if(*rel, negated)),
         Cond::Not(c) => width(c.get(), !negated),
         Cond::And(c, d) => {
             let left = width(c.get(), negated);
@@ -157,7 +157,7 @@ fn append(alloc: Global, case: &mut Vec<Atom>, atoms: &[Atom]) -> Result<(), All
 
 // A case with each of a list of cases appended.
 #[tactic(auto, using(crate::proofs::Crossing::crossing))]
-fn extended(
+fn extend(
     alloc: Global,
     out: &mut Vec<Vec<Atom>>,
     case: &[Atom],
@@ -186,7 +186,7 @@ fn cross(
 {
     let mut out = Vec::new(alloc);
     for case in left {
-        extended(alloc, &mut out, case.as_slice(), right)?;
+        extend(alloc, &mut out, case.as_slice(), right)?;
     }
     Ok(out)
 }
@@ -262,7 +262,7 @@ fn conjunctions(
         Cond::False => Ok(constant(alloc, negated, places)?),
         Cond::Cmp(a, rel, b) => {
             let gap = gap(alloc, a, b, places)?;
-            Ok(comparison(alloc, &gap, turned(*rel, negated))?)
+            Ok(comparison(alloc, &gap, opposite_if(*rel, negated))?)
         }
         Cond::Not(c) => conjunctions(alloc, c.get(), !negated, places),
         Cond::And(c, d) => {

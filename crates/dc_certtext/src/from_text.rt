@@ -46,7 +46,7 @@ struct Reading {
 }
 
 // The certificate, where its last line is read and nothing stands behind it.
-fn finished(stage: Stage, rest: &[u8]) -> Option<Certificate>
+fn finish(stage: Stage, rest: &[u8]) -> Option<Certificate>
     ensures { MatchOption result ((c : Whole) → stage ≡ Stage.Done c → ¬ (rest.now ≡ []))
         (λ c. (stage ≡ Stage.Done c) × (rest.now ≡ [])) }
 {
@@ -78,7 +78,7 @@ fn read_lines(alloc: Global, text: &[u8]) -> Result<Reading, AllocError>
     }
     Ok(Reading {
         line,
-        whole: finished(stage, rest),
+        whole: finish(stage, rest),
     })
 }
 

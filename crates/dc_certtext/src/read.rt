@@ -45,11 +45,11 @@ pub(crate) fn fraction(word: &[u8]) -> Option<Frac>
     let Some(den) = denominator(rest) else {
         return None;
     };
-    reduced(&num, &den)
+    lowest_terms(&num, &den)
 }
 
 // The fraction of two parts in lowest terms.
-fn reduced(num: &i128, den: &i128) -> Option<Frac>
+fn lowest_terms(num: &i128, den: &i128) -> Option<Frac>
     requires num_small { unsigned_abs num.now < 2 ^ 127 }
     requires den_small { unsigned_abs den.now < 2 ^ 127 }
     requires positive { pos 1 ≤ℤ den.now }

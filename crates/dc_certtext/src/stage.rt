@@ -7,7 +7,7 @@ ghost use Rattle.dc_certtext.specs.Stages.{Steps, closed_by};
 ghost use Rattle.dc_certtext.specs.Due.{certificate as certificate_of, with_vector as stage_with};
 
 use crate::step::{
-    between, cases, edges, end, entries, floor, heads, locations, main_line, main_vector, opened,
+    between, cases, edges, end, entries, floor, heads, locations, main_line, main_vector, open_side,
     sizes, start, version,
 };
 use dc_affine::Atom;
@@ -148,7 +148,7 @@ impl Head {
 
 impl Front {
     // The stage behind a side.
-    pub(crate) fn closed(self, side: SideCert) -> Stage
+    pub(crate) fn close(self, side: SideCert) -> Stage
         ensures { result ≡ closed_by self.head self.new side }
     {
         let Front { head, new } = self;
@@ -216,7 +216,7 @@ impl Stage {
                 alloc, line, claim, degree, products,
             )),
             Stage::Heads(head) => heads(alloc, line, head),
-            Stage::Opened(front) => opened(alloc, line, front),
+            Stage::Opened(front) => open_side(alloc, line, front),
             Stage::Locations(front, done, last) => locations(alloc, line, front, done, last),
             Stage::Entries(front, families, done, last) => {
                 entries(alloc, line, front, families, done, last)

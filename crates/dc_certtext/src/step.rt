@@ -134,11 +134,11 @@ pub(crate) fn sizes(alloc: Global, line: &[u8], claim: Claim, version: u8) -> Op
     let Some((degree, products)) = two_sizes(line) else {
         return None;
     };
-    Some(sized(alloc, claim, version, degree, products))
+    Some(after_sizes(alloc, claim, version, degree, products))
 }
 
 // Version 1 has one case.
-fn sized(alloc: Global, claim: Claim, version: u8, degree: u8, products: u8) -> Stage
+fn after_sizes(alloc: Global, claim: Claim, version: u8, degree: u8, products: u8) -> Stage
     ensures { result ≡ sized_stage claim version degree products }
 {
     if version == 1 {
@@ -210,7 +210,7 @@ pub(crate) fn heads(alloc: Global, line: &[u8], head: Head) -> Result<Option<Sta
 }
 
 // The first location of a side.
-pub(crate) fn opened(alloc: Global, line: &[u8], front: Front) -> Result<Option<Stage>, AllocError>
+pub(crate) fn open_side(alloc: Global, line: &[u8], front: Front) -> Result<Option<Stage>, AllocError>
     ensures { IfOk result (λ o. Steps (Stage.Opened front) line.now o) }
 {
     let text = number_text(alloc, b"location ", 0)?;
@@ -299,7 +299,7 @@ pub(crate) fn entries(
             return Ok(None);
         }
         done.push(last)?;
-        return Ok(Some(front.closed(SideCert {
+        return Ok(Some(front.close(SideCert {
             families,
             entry_keeps: done,
             edges: Items::new(alloc),
@@ -340,7 +340,7 @@ pub(crate) fn edges(
     }
     if let Some(l) = shown_behind(alloc, line, b"exit")? {
         done.push(EdgeCert { live, keeps: last })?;
-        return Ok(Some(front.closed(SideCert {
+        return Ok(Some(front.close(SideCert {
             families,
             entry_keeps: entries,
             edges: done,

@@ -63,7 +63,7 @@ fn put_shown(alloc: Global, out: &mut Vec<u8>, l: &Liveness) -> Result<(), Alloc
 }
 
 // A word and whether something is live.
-fn shown(alloc: Global, out: &mut Vec<u8>, word: &[u8], l: &Liveness) -> Result<(), AllocError>
+fn write_liveness(alloc: Global, out: &mut Vec<u8>, word: &[u8], l: &Liveness) -> Result<(), AllocError>
     ensures { OnOk result (out.new.items ≡ out.old.items ++ ended (shown_line word.now l.now ∷ [])) }
 {
     out.extend_from_slice(word)?;
@@ -188,7 +188,7 @@ fn side(alloc: Global, out: &mut Vec<u8>, version: u8, s: &SideCert) -> Result<(
     locations(alloc, out, s.families.as_slice())?;
     entries(alloc, out, version, s.entry_keeps.as_slice())?;
     edges(alloc, out, s.edges.as_slice())?;
-    shown(alloc, out, b"exit", &s.exit_line)
+    write_liveness(alloc, out, b"exit", &s.exit_line)
 }
 
 // What is claimed: a threshold has its floor on a second line.
@@ -264,7 +264,7 @@ fn whens(alloc: Global, out: &mut Vec<u8>, list: &Items<Liveness>) -> Result<(),
         (out.new.items ≡ out.old.items ++ ended (map (shown_line (codes "when")) list.now)) }
 {
     for l in list.as_slice() {
-        shown(alloc, out, b"when", l)?;
+        write_liveness(alloc, out, b"when", l)?;
     }
     Ok(())
 }

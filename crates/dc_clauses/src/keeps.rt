@@ -113,7 +113,7 @@ fn sum(constant: &i64, more: &i128) -> i128
 }
 
 /// An atom after an edge's update, and whether it is affine there.
-fn moved(alloc: Global, s: &System, e: &Edge, atom: &Atom) -> Result<(WideAtom, bool), AllocError>
+fn move_atom(alloc: Global, s: &System, e: &Edge, atom: &Atom) -> Result<(WideAtom, bool), AllocError>
     requires few { s.now.vars ≤ 10 }
     requires edge { IsEdgeOver s.now.vars e.now }
     requires atom { IsAtom 10 atom.now }
@@ -149,7 +149,7 @@ fn moved_test(
     requires full { length atom.now.coefs ≡ s.now.vars }
     ensures { IfOk result (λ t. t ≡ shows_after s.now x.now e.now atom.now keep.now) }
 {
-    let (target, is_affine) = moved(alloc, s, e, atom)?;
+    let (target, is_affine) = move_atom(alloc, s, e, atom)?;
     let hyps = edge_hyps(x, e);
     let places = edge_places(s.vars, e);
     Ok(keep_test(

@@ -73,7 +73,7 @@ fn analyse_texts(
         z.now) when.entry) settings.now)) }
 {
     let c = certificate_of(alloc, new, old, when, settings, tableau)?;
-    written(alloc, &c)
+    output_of(alloc, &c)
 }
 
 /// The certificate of what two texts say.
@@ -92,11 +92,11 @@ pub fn certificate_of(
         when.entry) settings.now) }
 {
     let versions = read_sources(alloc, new, old, when)?;
-    certified(alloc, &versions, settings, tableau)
+    certify(alloc, &versions, settings, tableau)
 }
 
 /// The certificate of two programs.
-fn certified(
+fn certify(
     alloc: Global,
     v: &Versions,
     settings: &Settings,
@@ -135,7 +135,7 @@ fn refusal_of(fault: AnalyseFault) -> Refusal
 }
 
 /// The text of a certificate, with the status of its claim.
-fn written(alloc: Global, c: &Certificate) -> Result<Output, Refusal>
+fn output_of(alloc: Global, c: &Certificate) -> Result<Output, Refusal>
     requires { IsCertificate c.now }
     ensures ok { IfOk result (λ o. (left : Meaning) → IsWritten left c.now (Printed (output o.status
         o.bytes.items (Some left)))) }

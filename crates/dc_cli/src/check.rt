@@ -66,7 +66,7 @@ fn check_texts(
 {
     let c = certificate_in(alloc, cert)?;
     let versions = read_sources(alloc, new, old, when)?;
-    checked(alloc, &versions, &c)
+    judge(alloc, &versions, &c)
 }
 
 /// The certificate whose text the bytes are.
@@ -83,7 +83,7 @@ fn certificate_in(alloc: Global, text: &[u8]) -> Result<Certificate, Refusal>
 }
 
 /// Checks a certificate against two programs.
-fn checked(alloc: Global, v: &Versions, c: &Certificate) -> Result<Output, Refusal>
+fn judge(alloc: Global, v: &Versions, c: &Certificate) -> Result<Output, Refusal>
     requires read { AreRead v.now.new v.now.old v.now.cases }
     requires ranges { IsCertificate c.now }
     ensures ok { IfOk result (λ o. CertificateEnds c.now v.now.new v.now.old v.now.cases (Printed
@@ -92,17 +92,17 @@ fn checked(alloc: Global, v: &Versions, c: &Certificate) -> Result<Output, Refus
         v.now.cases)) }
 {
     match dc_check::check(alloc, &v.new, &v.old, v.cases.as_slice(), c) {
-        Ok(claim) => accepted(alloc, &claim),
+        Ok(claim) => acceptance_output(alloc, &claim),
         Err(fault) => Err(refusal_of(fault)),
     }
 }
 
 /// What is printed where a certificate is accepted.
-fn accepted(alloc: Global, claim: &Claim) -> Result<Output, Refusal>
+fn acceptance_output(alloc: Global, claim: &Claim) -> Result<Output, Refusal>
     ensures ok { IfOk result (λ o. (o.status ≡ 0) × (o.bytes.items ≡ accepted_text claim.now)) }
     ensures refused { IfErr result (λ r. r ≡ Refusal.NoMemory) }
 {
-    match claims::accepted(alloc, claim) {
+    match claims::acceptance(alloc, claim) {
         Ok(bytes) => Ok(Output { status: 0, bytes }),
         Err(AllocError) => Err(Refusal::NoMemory),
     }

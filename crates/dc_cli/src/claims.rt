@@ -55,7 +55,7 @@ pub fn line_behind(alloc: Global, before: &[u8], claim: &Claim) -> Result<Vec<u8
 }
 
 /// What is printed where a certificate is accepted.
-pub fn accepted(alloc: Global, claim: &Claim) -> Result<Vec<u8>, AllocError>
+pub fn acceptance(alloc: Global, claim: &Claim) -> Result<Vec<u8>, AllocError>
     ensures { IfOk result (λ v. v.items ≡ accepted_text claim.now) }
 {
     line_behind(alloc, b"accepted ", claim)

@@ -76,14 +76,14 @@ pub fn top<S: Store, O: Sink, E: Sink>(
     ensures counts { (S.faults store.old ≤ S.faults store.new)
         × (O.faults out.old ≤ O.faults out.new) × (E.faults err.old ≤ E.faults err.new) }
 {
-    match printed(alloc, words, store, out, tableau) {
+    match print_answer(alloc, words, store, out, tableau) {
         Ok(status) => status,
         Err(refusal) => report(alloc, &refusal, err),
     }
 }
 
 /// Writes the output that is due, or says why there is none.
-fn printed<S: Store, O: Sink>(
+fn print_answer<S: Store, O: Sink>(
     alloc: Global,
     words: &Vec<String>,
     store: &mut S,

@@ -44,8 +44,8 @@ pub fn built_line(alloc: Global, refusal: &Refusal) -> Result<String, AllocError
         Refusal::TooLarge { side, what, count } => too_large(alloc, *side, *what, *count),
         Refusal::PastPivot { place, pivot } => past_pivot(alloc, *place, *pivot),
         Refusal::PastFold { clause, index } => past_fold(alloc, *clause, *index),
-        Refusal::Spent { place } => spent(alloc, *place),
-        Refusal::Rejected { clause, index } => rejected(alloc, *clause, *index),
+        Refusal::Spent { place } => budget_line(alloc, *place),
+        Refusal::Rejected { clause, index } => rejection_line(alloc, *clause, *index),
     }
 }
 
@@ -111,7 +111,7 @@ fn past_fold(alloc: Global, clause: u8, index: u64) -> Result<String, AllocError
     Ok(text)
 }
 
-fn spent(alloc: Global, place: Place) -> Result<String, AllocError>
+fn budget_line(alloc: Global, place: Place) -> Result<String, AllocError>
     ensures { IfOk result (λ text. string_bytes text ≡ spent_line place) }
 {
     let place = place_words(alloc, place)?;
@@ -120,7 +120,7 @@ fn spent(alloc: Global, place: Place) -> Result<String, AllocError>
     Ok(text)
 }
 
-fn rejected(alloc: Global, clause: u8, index: u64) -> Result<String, AllocError>
+fn rejection_line(alloc: Global, clause: u8, index: u64) -> Result<String, AllocError>
     ensures { IfOk result (λ text. string_bytes text ≡ rejected_line clause index) }
 {
     let text = format!(in alloc; "rejected: clause {clause} index {index}\n")?;

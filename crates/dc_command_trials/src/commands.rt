@@ -159,8 +159,8 @@ fn analyses_begin_with_their_claim(rt: HostRuntime) -> Result<(), AllocError> {
         let mut store = sources(alloc, new, old)?;
         let ended = run(alloc, &analyse(when, degree, products), &mut store)?;
         assert_eq!(rt; ended.status, *status, "at {first}");
-        assert!(rt; begins(ended.out.written(), first));
-        assert!(rt; ended.err.written().is_empty());
+        assert!(rt; begins(ended.out.bytes(), first));
+        assert!(rt; ended.err.bytes().is_empty());
     }
     Ok(())
 }
@@ -184,7 +184,7 @@ fn a_whole_certificate_is_printed(rt: HostRuntime) -> Result<(), AllocError> {
     let mut store = sources(alloc, EMPTY, EMPTY)?;
     let ended = run(alloc, &SMALL, &mut store)?;
     assert_eq!(rt; ended.status, 0);
-    assert!(rt; ended.out.written() == CERTIFICATE.as_bytes());
+    assert!(rt; ended.out.bytes() == CERTIFICATE.as_bytes());
     Ok(())
 }
 
@@ -238,8 +238,8 @@ fn refusals_have_their_lines(rt: HostRuntime) -> Result<(), AllocError> {
         let mut store = sources(alloc, new, old)?;
         let ended = run(alloc, &words, &mut store)?;
         assert_eq!(rt; ended.status, status, "at {line}");
-        assert!(rt; ended.out.written().is_empty());
-        assert!(rt; ended.err.written() == line.as_bytes());
+        assert!(rt; ended.out.bytes().is_empty());
+        assert!(rt; ended.err.bytes() == line.as_bytes());
     }
     Ok(())
 }
@@ -261,7 +261,7 @@ fn limits_have_their_lines(rt: HostRuntime) -> Result<(), AllocError> {
     let mut store = sources(alloc, long.as_str(), SKIP)?;
     let ended = run(alloc, &SMALL, &mut store)?;
     assert_eq!(rt; ended.status, 5);
-    assert!(rt; ended.err.written() == b"too large: new locations 129\n".as_slice());
+    assert!(rt; ended.err.bytes() == b"too large: new locations 129\n".as_slice());
     let mut store = sources(alloc, LOOP_2, LOOP_1)?;
     let one_pivot = [
         "analyse",
@@ -278,12 +278,12 @@ fn limits_have_their_lines(rt: HostRuntime) -> Result<(), AllocError> {
     ];
     let ended = run(alloc, &one_pivot, &mut store)?;
     assert_eq!(rt; ended.status, 7);
-    assert!(rt; ended.err.written() == b"pivots spent: new edge 0\n".as_slice());
+    assert!(rt; ended.err.bytes() == b"pivots spent: new edge 0\n".as_slice());
     let wide = "proc f(n) { var x, y; x = 2147483647*n; y = 2147483647*x; tick 2147483647*y*y; }";
     let mut store = sources(alloc, wide, SKIP)?;
     let ended = run(alloc, &analyse("n == 2147483647", "2", "2"), &mut store)?;
     assert_eq!(rt; ended.status, 6);
-    assert!(rt; begins(ended.err.written(), "past 128 bits: "));
+    assert!(rt; begins(ended.err.bytes(), "past 128 bits: "));
     Ok(())
 }
 
@@ -317,8 +317,8 @@ fn words_and_names_are_refused(rt: HostRuntime) -> Result<(), AllocError> {
         let mut store = sources(alloc, EMPTY, EMPTY)?;
         let ended = run(alloc, words, &mut store)?;
         assert_eq!(rt; ended.status, status, "at {said}");
-        assert!(rt; ended.out.written().is_empty());
-        assert!(rt; ended.err.written() == said.as_bytes());
+        assert!(rt; ended.out.bytes().is_empty());
+        assert!(rt; ended.err.bytes() == said.as_bytes());
     }
     Ok(())
 }
@@ -353,8 +353,8 @@ fn certificates_are_checked(rt: HostRuntime) -> Result<(), AllocError> {
         store.add("cert.dc", cert.as_bytes())?;
         let ended = run(alloc, &CHECK, &mut store)?;
         assert_eq!(rt; ended.status, status, "at {line}");
-        assert!(rt; ended.out.written() == output.as_bytes());
-        assert!(rt; ended.err.written() == line.as_bytes());
+        assert!(rt; ended.out.bytes() == output.as_bytes());
+        assert!(rt; ended.err.bytes() == line.as_bytes());
     }
     Ok(())
 }
@@ -370,11 +370,11 @@ fn what_is_printed_is_accepted(rt: HostRuntime) -> Result<(), AllocError> {
     ] {
         let mut store = sources(alloc, LOOP_2, LOOP_1)?;
         let printed = run(alloc, &analyse(when, "1", "1"), &mut store)?;
-        store.add("cert.dc", printed.out.written())?;
+        store.add("cert.dc", printed.out.bytes())?;
         let words = ["check", "new.dc", "old.dc", "cert.dc", "--when", when];
         let ended = run(alloc, &words, &mut store)?;
         assert_eq!(rt; ended.status, 0, "at {when}");
-        assert!(rt; ended.out.written() == output.as_bytes());
+        assert!(rt; ended.out.bytes() == output.as_bytes());
     }
     Ok(())
 }
@@ -397,7 +397,7 @@ fn samples_print_four_lines(rt: HostRuntime) -> Result<(), AllocError> {
         let mut store = MemStore::new(alloc);
         let ended = run(alloc, &["sample", seed, count], &mut store)?;
         assert_eq!(rt; ended.status, 0, "at {seed}");
-        assert!(rt; ended.out.written() == output.as_bytes());
+        assert!(rt; ended.out.bytes() == output.as_bytes());
     }
     Ok(())
 }
@@ -423,8 +423,8 @@ fn faults_of_the_outside_are_reported(rt: HostRuntime) -> Result<(), AllocError>
         err.fail_at(put_line)?;
         let found = top(alloc, &words, &mut store, &mut out, &mut err, &mut tableau);
         assert_eq!(rt; found, status, "at {line}");
-        assert!(rt; out.written() == output.as_bytes());
-        assert!(rt; err.written() == line.as_bytes());
+        assert!(rt; out.bytes() == output.as_bytes());
+        assert!(rt; err.bytes() == line.as_bytes());
     }
     Ok(())
 }

@@ -31,10 +31,10 @@ fn two_real_files_are_analysed(rt: HostRuntime) -> Result<(), Fail> {
     fs::remove_file(&rt, old)?;
     assert_eq!(rt; status, 0);
     assert!(rt;
-        out.written()
+        out.bytes()
             .starts_with(b"threshold 3\nwhole 3\ndiffcost 2\n".as_slice())
     );
     assert_eq!(rt; missing, 8);
-    assert!(rt; err.written() == b"read fault: dc_command_trials_none.dc\n".as_slice());
+    assert!(rt; err.bytes() == b"read fault: dc_command_trials_none.dc\n".as_slice());
     Ok(())
 }

@@ -35,7 +35,7 @@ pub struct Cursor<'a> {
     pub rest: &'a [Token],
 }
 
-pub fn same(a: TokenKind, b: TokenKind) -> bool
+pub fn is_same_kind(a: TokenKind, b: TokenKind) -> bool
     ensures { result ≡ is a b }
 {
     a == b
@@ -47,7 +47,7 @@ impl<'a> Cursor<'a> {
         ensures { result ≡ begins language_reader (tok kind) self.now.rest.now }
     {
         match self.rest.first() {
-            Some(first) => same(kind, first.kind),
+            Some(first) => is_same_kind(kind, first.kind),
             None => false,
         }
     }

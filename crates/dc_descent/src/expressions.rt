@@ -6,7 +6,7 @@ ghost use Rattle.dc_descent.specs.Reads.{Reads};
 ghost use Rattle.dc_descent.specs.Scopes.{places};
 ghost use Rattle.dc_descent.specs.Trees.{IsExpr, IsTerm, IsUnary, sum_by};
 
-use crate::cursor::{Cursor, Stop, same};
+use crate::cursor::{Cursor, Stop, is_same_kind};
 use crate::scope::Scope;
 use dc_syntax::Expr;
 use dc_tokens::TokenKind;
@@ -29,7 +29,7 @@ fn product(alloc: Global, a: Expr, b: Expr) -> Result<Expr, AllocError>
 fn sum(alloc: Global, sign: TokenKind, a: Expr, b: Expr) -> Result<Expr, AllocError>
     ensures { IfOk result (λ e. e ≡ sum_by sign a b) }
 {
-    if same(TokenKind::Plus, sign) {
+    if is_same_kind(TokenKind::Plus, sign) {
         Ok(Expr::Add(Boxed::new(alloc, a)?, Boxed::new(alloc, b)?))
     } else {
         Ok(Expr::Sub(Boxed::new(alloc, a)?, Boxed::new(alloc, b)?))

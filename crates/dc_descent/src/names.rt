@@ -9,7 +9,7 @@ ghost use Rattle.dc_descent.specs.Reads.{Reads};
 ghost use Rattle.dc_descent.specs.Scopes.{spelled};
 ghost use Rattle.dc_descent.specs.Sources.{AddsNames, names_in, params_in, locals_in};
 
-use crate::cursor::{Cursor, Stop, same};
+use crate::cursor::{Cursor, Stop, is_same_kind};
 use crate::fault::{Fault, Kind};
 use crate::scope::{Scope, place_of, spelling};
 use dc_syntax::{Names, ascii_text};
@@ -116,7 +116,7 @@ fn missing(place: Option<usize>, at: usize) -> Option<Fault>
 fn unknown(scope: &Scope<'_>, token: Token) -> Option<Fault>
     ensures { result ≡ unknown scope.now.text.now (map string_bytes scope.now.names.now) token }
 {
-    if same(TokenKind::Name, token.kind) {
+    if is_same_kind(TokenKind::Name, token.kind) {
         missing(place_of(scope.names, spelling(scope.text, token)), token.at)
     } else {
         None

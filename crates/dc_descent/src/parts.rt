@@ -50,7 +50,7 @@ fn any_of(place: usize, range: Option<Range>) -> Stmt
 }
 
 /// What is assigned to a place.
-pub fn assigned(
+pub fn assigned_value(
     alloc: Global,
     scope: &Scope<'_>,
     cursor: &mut Cursor<'_>,

@@ -11,7 +11,7 @@ ghost use Rattle.dc_descent.specs.Alternatives.{IsSkip, IsTick, IsAssume, IsAssi
 use crate::conditions::cond;
 use crate::cursor::{Cursor, Stop};
 use crate::expressions::expr;
-use crate::parts::{assigned, choice};
+use crate::parts::{assigned_value, choice};
 use crate::scope::Scope;
 use dc_syntax::{Cond, Stmt};
 use dc_tokens::TokenKind;
@@ -54,7 +54,7 @@ fn assign(alloc: Global, scope: &Scope<'_>, cursor: &mut Cursor<'_>) -> Result<S
 {
     let name = cursor.expect(TokenKind::Name)?;
     cursor.expect(TokenKind::Assign)?;
-    let statement = assigned(alloc, scope, cursor, scope.place(name))?;
+    let statement = assigned_value(alloc, scope, cursor, scope.place(name))?;
     cursor.expect(TokenKind::Semi)?;
     Ok(statement)
 }
@@ -67,7 +67,7 @@ fn begin(starts: &mut Vec<usize>, place: usize) -> Result<(), AllocError>
     Ok(())
 }
 
-fn branched(condition: Option<Cond>, yes: Items<Stmt>, no: Items<Stmt>) -> Stmt
+fn branch_stmt(condition: Option<Cond>, yes: Items<Stmt>, no: Items<Stmt>) -> Stmt
     ensures { result ≡ branch_by condition yes no }
 {
     match condition {
@@ -76,7 +76,7 @@ fn branched(condition: Option<Cond>, yes: Items<Stmt>, no: Items<Stmt>) -> Stmt
     }
 }
 
-fn looped(condition: Option<Cond>, body: Items<Stmt>) -> Stmt
+fn loop_stmt(condition: Option<Cond>, body: Items<Stmt>) -> Stmt
     ensures { result ≡ loop_by condition body }
 {
     match condition {
@@ -100,7 +100,7 @@ fn branch(
     cursor.expect(TokenKind::RParen)?;
     let yes = block(alloc, scope, cursor, starts)?;
     let no = otherwise(alloc, scope, cursor, starts)?;
-    Ok(branched(condition, yes, no))
+    Ok(branch_stmt(condition, yes, no))
 }
 
 #[cycle(statements)]
@@ -135,7 +135,7 @@ fn repeat(
     let condition = choice(alloc, scope, cursor)?;
     cursor.expect(TokenKind::RParen)?;
     let body = block(alloc, scope, cursor, starts)?;
-    Ok(looped(condition, body))
+    Ok(loop_stmt(condition, body))
 }
 
 #[cycle(statements)]

@@ -21,7 +21,7 @@ use dc_tokens::Token;
 use std::alloc::Global;
 
 /// The tokens up to the first that is too deep, and its number.
-fn bounded(tokens: &[Token]) -> (Option<usize>, &[Token])
+fn shallow_front(tokens: &[Token]) -> (Option<usize>, &[Token])
     ensures { IsCut tokens.now result.0 result.1.now }
 {
     let deep = first_deep(tokens);
@@ -59,7 +59,7 @@ pub fn read_source(alloc: Global, text: &[u8], tokens: &[Token]) -> Result<Sourc
     requires { IsAscii text.now }
     ensures { IsRead Name.source (IsSource text.now) tokens.now (length text.now) result }
 {
-    let (deep, part) = bounded(tokens);
+    let (deep, part) = shallow_front(tokens);
     let mut cursor = Cursor { rest: part };
     match procedure(alloc, text, &mut cursor) {
         Ok(found) => match fault_at(tokens, deep, part, cursor.rest.len()) {
@@ -82,7 +82,7 @@ pub fn read_condition(alloc: Global, scope: &Scope<'_>, tokens: &[Token]) -> Res
     ensures { IsRead Name.cond (IsCond (places scope.now)) tokens.now
         (length scope.now.text.now) result }
 {
-    let (deep, part) = bounded(tokens);
+    let (deep, part) = shallow_front(tokens);
     let mut cursor = Cursor { rest: part };
     match cond(alloc, scope, &mut cursor) {
         Ok(found) => match fault_at(tokens, deep, part, cursor.rest.len()) {

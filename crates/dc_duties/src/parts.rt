@@ -13,7 +13,7 @@ ghost use Rattle.dc_duties.specs.Sizes.{IsCoefficientOf};
 ghost use Rattle.dc_duties.specs.Tasks.{IsTask, IsUnknown};
 
 use crate::plan::{Programs, Task};
-use crate::states::{at_state, inputs, unchanged};
+use crate::states::{at_state, inputs, identity};
 use dc_claims::{Duty, Unknown};
 use dc_poly::{Mono, Poly};
 use dc_syntax::Side;
@@ -169,7 +169,7 @@ fn before(
     if location != edge.from {
         return nothing(alloc, vars + 1);
     }
-    let state = unchanged(alloc, vars, vars + 1)?;
+    let state = identity(alloc, vars, vars + 1)?;
     at_state(alloc, mono, state.as_slice(), vars + 1)
 }
 
@@ -214,7 +214,7 @@ fn at_exit(
     if location != system.locs - 1 {
         return nothing(alloc, system.vars);
     }
-    let state = unchanged(alloc, system.vars, system.vars)?;
+    let state = identity(alloc, system.vars, system.vars)?;
     let own = at_state(alloc, mono, state.as_slice(), system.vars)?;
     match side {
         Side::New => Ok(own),

@@ -25,7 +25,7 @@ fn append(alloc: Global, list: &mut Vec<Atom>, atoms: &[Atom]) -> Result<(), All
 }
 
 // Copies of atoms, and of more behind them.
-fn joined(alloc: Global, atoms: &[Atom], more: &[Atom]) -> Result<Vec<Atom>, AllocError>
+fn join(alloc: Global, atoms: &[Atom], more: &[Atom]) -> Result<Vec<Atom>, AllocError>
     ensures { IfOk result (λ v. v.items ≡ atoms.now ++ more.now) }
 {
     let mut list = Vec::new(alloc);
@@ -52,7 +52,7 @@ fn duty_atoms(alloc: Global, programs: &Programs, duty: &Duty) -> Result<Vec<Ato
     match *duty {
         Duty::Along(side, number) => {
             let edge = programs.edge(side, number);
-            joined(
+            join(
                 alloc,
                 programs.atoms(side, edge.from),
                 edge.guard.as_slice(),

@@ -12,7 +12,7 @@ use dc_template::template_column;
 use std::alloc::{AllocError, Global};
 
 /// So many variables as they are, over so many places.
-pub fn unchanged(alloc: Global, vars: usize, places: usize) -> Result<Vec<Poly>, AllocError>
+pub fn identity(alloc: Global, vars: usize, places: usize) -> Result<Vec<Poly>, AllocError>
     requires few { places ≤ 11 }
     requires inside { vars ≤ places }
     ensures { IfOk result (λ v. v.items ≡ map (λ k. variable k places) (range_with_len 0 vars)) }
@@ -33,7 +33,7 @@ pub fn inputs(alloc: Global, params: usize, vars: usize) -> Result<Vec<Poly>, Al
         ≡ map (λ k. variable k params) (range_with_len 0 params)
         ++ replicate (vars - params) (constant (pos 0) params)) }
 {
-    let mut state = unchanged(alloc, params, params)?;
+    let mut state = identity(alloc, params, params)?;
     for _local in params..vars {
         state.push(Poly::constant(alloc, 0, params)?)?;
     }

@@ -25,7 +25,7 @@ use sqlite_items::Items;
 use std::alloc::Global;
 
 /// The certificate that the main problem's outcome gives, with what the problems before it have given.
-fn made<T: Tableau>(
+fn make_certificate<T: Tableau>(
     alloc: Global,
     t: &Lent,
     v: &Versions,
@@ -98,7 +98,7 @@ pub fn analyse_on<T: Tableau>(
         Ok(early) => early,
         Err(fault) => return Err(of_problem(fault)),
     };
-    let certificate = match made(alloc, &lent, &v, e, tableau) {
+    let certificate = match make_certificate(alloc, &lent, &v, e, tableau) {
         Ok(certificate) => certificate,
         Err(fault) => return Err(fault),
     };

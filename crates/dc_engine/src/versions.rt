@@ -29,7 +29,7 @@ pub(crate) struct Plain {
 }
 
 /// The system of a side before folding.
-fn built(alloc: Global, side: Side, p: &Proc) -> Result<System, AnalyseFault>
+fn build_system(alloc: Global, side: Side, p: &Proc) -> Result<System, AnalyseFault>
     requires program { IsProgram p.now }
     ensures system { IfOk result (λ s. s ≡ system_of p.now) }
     ensures well_formed { IfOk result (λ s. IsWellFormed s) }
@@ -43,7 +43,7 @@ fn built(alloc: Global, side: Side, p: &Proc) -> Result<System, AnalyseFault>
 }
 
 /// The candidates of a side.
-fn listed(
+fn list_candidates(
     alloc: Global,
     side: Side,
     s: &System,
@@ -92,11 +92,11 @@ fn plain_systems(alloc: Global, t: &Lent) -> Result<Plain, AnalyseFault>
     ensures systems { IfOk result (ArePlain (input_of t.now)) }
     ensures fault { IfErr result (IsExcess (early_excess (input_of t.now))) }
 {
-    let new = match built(alloc, Side::New, t.new) {
+    let new = match build_system(alloc, Side::New, t.new) {
         Ok(system) => system,
         Err(fault) => return Err(fault),
     };
-    let old = match built(alloc, Side::Old, t.old) {
+    let old = match build_system(alloc, Side::Old, t.old) {
         Ok(system) => system,
         Err(fault) => return Err(fault),
     };
@@ -104,7 +104,7 @@ fn plain_systems(alloc: Global, t: &Lent) -> Result<Plain, AnalyseFault>
 }
 
 /// A version, with its system folded.
-fn folded(alloc: Global, system: &System, candidates: Candidates) -> Result<Version, AllocError>
+fn fold_version(alloc: Global, system: &System, candidates: Candidates) -> Result<Version, AllocError>
     requires system { IsWellFormed system.now }
     ensures folded { IfOk result (λ v. IsFolded system.now v.system) }
     ensures well_formed { IfOk result (λ v. IsWellFormed v.system) }
@@ -128,18 +128,18 @@ pub(crate) fn both_versions(alloc: Global, t: &Lent) -> Result<Versions, Analyse
     let Ok(atoms) = flat(alloc, t.cases) else {
         return Err(AnalyseFault::NoMemory);
     };
-    let new = match listed(alloc, Side::New, &plain.new, &atoms, t.settings.pairs) {
+    let new = match list_candidates(alloc, Side::New, &plain.new, &atoms, t.settings.pairs) {
         Ok(list) => list,
         Err(fault) => return Err(fault),
     };
-    let old = match listed(alloc, Side::Old, &plain.old, &atoms, t.settings.pairs) {
+    let old = match list_candidates(alloc, Side::Old, &plain.old, &atoms, t.settings.pairs) {
         Ok(list) => list,
         Err(fault) => return Err(fault),
     };
-    let Ok(new) = folded(alloc, &plain.new, new) else {
+    let Ok(new) = fold_version(alloc, &plain.new, new) else {
         return Err(AnalyseFault::NoMemory);
     };
-    let Ok(old) = folded(alloc, &plain.old, old) else {
+    let Ok(old) = fold_version(alloc, &plain.old, old) else {
         return Err(AnalyseFault::NoMemory);
     };
     Ok(Versions { new, old })

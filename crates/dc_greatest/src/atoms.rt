@@ -5,7 +5,7 @@ ghost use Rattle.dc_greatest.specs.Kept.{IsBelow, IsFit, with_least, least_rows}
 
 use crate::family::LocFamily;
 use dc_affine::Atom;
-use dc_moves::bounded;
+use dc_moves::row_atom;
 use dc_rows::Candidates;
 use std::alloc::{AllocError, Global};
 
@@ -27,7 +27,7 @@ fn push_least(
     };
     let row = &c.rows.as_slice()[row];
     let bound = c.bounds.as_slice()[k];
-    atoms.push(bounded(alloc, row.as_slice(), bound)?)?;
+    atoms.push(row_atom(alloc, row.as_slice(), bound)?)?;
     Ok(())
 }
 

@@ -81,7 +81,7 @@ fn same_one(a: &LocFamily, b: &LocFamily) -> bool
 }
 
 /// Whether two families are the same.
-pub(crate) fn same(a: &[LocFamily], b: &[LocFamily]) -> bool
+pub(crate) fn are_same(a: &[LocFamily], b: &[LocFamily]) -> bool
     requires { length a.now ≡ length b.now }
     ensures { IsTrue result ↔ (a.now ≡ b.now) }
 {
@@ -106,7 +106,7 @@ pub(crate) fn all_edges(alloc: Global, edges: usize) -> Result<WorkList, AllocEr
 }
 
 /// The edges whose source has changed.
-pub(crate) fn changed(
+pub(crate) fn changed_edges(
     alloc: Global,
     s: &System,
     old: &[LocFamily],

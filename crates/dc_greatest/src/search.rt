@@ -11,7 +11,7 @@ ghost use Rattle.dc_greatest.specs.Lent.{IsLent, family, AreShaped, EntryAsks, E
 
 use crate::family::{Family, InvFault, LocFamily};
 use crate::lent::Lent;
-use crate::lists::{all_edges, changed, copy, everything, same};
+use crate::lists::{all_edges, changed_edges, copy, everything, are_same};
 use crate::pass::{pass_case, pass_edge};
 use dc_affine::Atom;
 use dc_lp::Tableau;
@@ -169,10 +169,10 @@ fn rounds<T: Tableau>(alloc: Global, t: &Lent, tableau: &mut T) -> Result<Vec<Lo
             Ok(next) => next,
             Err(fault) => return Err(fault),
         };
-        if same(&next, &at) {
+        if are_same(&next, &at) {
             return Ok(at);
         }
-        work = changed(alloc, t.system, &at, &next)?;
+        work = changed_edges(alloc, t.system, &at, &next)?;
         fresh = false;
         at = next;
     }

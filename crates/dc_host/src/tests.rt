@@ -59,14 +59,14 @@ fn a_sink_in_memory(rt: HostRuntime) -> Result<(), Fail> {
         put_all(&mut sink, b"threshold 3\n").is_err(),
         "the second call is listed"
     );
-    assert!(rt; sink.written() == b"thre".as_slice());
+    assert!(rt; sink.bytes() == b"thre".as_slice());
     assert!(rt; sink.faults() == 1);
     assert!(rt;
         matches!(sink.put(b""), Ok(0)),
         "an empty piece is taken at a listed call"
     );
     assert!(rt; put_all(&mut sink, b"shold ").is_ok());
-    assert!(rt; sink.written() == b"threshold ".as_slice());
+    assert!(rt; sink.bytes() == b"threshold ".as_slice());
     assert!(rt; sink.put(b"3").is_err(), "no room is left");
     assert!(rt; sink.faults() == 2);
     Ok(())

@@ -24,7 +24,7 @@ use dc_cert::{EdgeCert, Liveness, SideCert, Sparse};
 use dc_entail::Place;
 use dc_greatest::InvFault;
 use dc_lp::Tableau;
-use dc_moves::{copied, edge_places, first_numbers, with_guard};
+use dc_moves::{copy_atoms, edge_places, first_numbers, with_guard};
 use dc_syntax::Side;
 use dc_system::{Edge, System, row_after};
 use sqlite_items::Items;
@@ -59,7 +59,7 @@ fn edge_atoms(alloc: Global, t: &Keeping, edge: &Edge) -> Result<Vec<Atom>, Allo
         (λ v. v.items ≡ guarded (places_of t.now.system.now.vars edge.now)
         (printed_at (graph t.now) t.now.printed.now edge.now.from) edge.now) }
 {
-    let atoms = copied(alloc, atoms_of(t, edge.from))?;
+    let atoms = copy_atoms(alloc, atoms_of(t, edge.from))?;
     with_guard(alloc, atoms, edge, edge_places(t.system.vars, edge))
 }
 

@@ -19,7 +19,7 @@ use dc_affine::Atom;
 use dc_entail::Place;
 use dc_greatest::{Family, InvFault, LocFamily};
 use dc_lp::Tableau;
-use dc_moves::bounded;
+use dc_moves::row_atom;
 use dc_rows::Candidates;
 use dc_syntax::Side;
 use dc_system::System;
@@ -90,7 +90,7 @@ fn least_atom(
         unreachable!()
     };
     let coefs = c.rows.as_slice()[row].as_slice();
-    bounded(alloc, coefs, c.bounds.as_slice()[number])
+    row_atom(alloc, coefs, c.bounds.as_slice()[number])
 }
 
 /// The atom of each of these rows.
@@ -148,7 +148,7 @@ fn prune_one<T: Tableau>(
 }
 
 /// Leaves out, from the last to the first, each atom of a location that the others still there entail.
-fn pruned<T: Tableau>(
+fn prune_atoms<T: Tableau>(
     alloc: Global,
     t: &Pruning,
     location: usize,
@@ -204,7 +204,7 @@ fn printed_at<T: Tableau>(
     let least = f.least.as_slice();
     let rows = kept_rows(alloc, least)?;
     let atoms = least_atoms(alloc, t.candidates, least, &rows)?;
-    match pruned(alloc, t, location, &rows, atoms, tableau) {
+    match prune_atoms(alloc, t, location, &rows, atoms, tableau) {
         Ok(atoms) => Ok(Items::from_vec(atoms)),
         Err(fault) => Err(fault),
     }

@@ -68,13 +68,13 @@ pub fn problem_of(
         });
     }
     let task = Task::new(alloc, &programs, degree, products)?;
-    let table = filled(alloc, &task, duties.as_slice())?;
+    let table = fill_table(alloc, &task, duties.as_slice())?;
     let problem = table.into_problem(alloc)?;
     Ok(problem)
 }
 
 // The table of some duties.
-fn filled(alloc: Global, task: &Task, duties: &[Duty]) -> Result<Table, MatchFault>
+fn fill_table(alloc: Global, task: &Task, duties: &[Duty]) -> Result<Table, MatchFault>
     requires task { IsTask task.now }
     requires there { All (IsThere (lent task.now.programs.now)) duties.now }
     requires few { All (λ o. products_count

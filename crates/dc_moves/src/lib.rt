@@ -4,4 +4,4 @@
 pub mod laws;
 mod lists;
 
-pub use lists::{bounded, copied, edge_places, first_numbers, with_guard};
+pub use lists::{row_atom, copy_atoms, edge_places, first_numbers, with_guard};

@@ -10,7 +10,7 @@ use sqlite_items::Items;
 use std::alloc::{AllocError, Global};
 
 /// The atom "row + bound >= 0".
-pub fn bounded(alloc: Global, row: &[i64], bound: i64) -> Result<Atom, AllocError>
+pub fn row_atom(alloc: Global, row: &[i64], bound: i64) -> Result<Atom, AllocError>
     ensures { IfOk result (λ a. a ≡ bounded_by row.now bound) }
 {
     let coefs = Items::from_slice(alloc, row)?;
@@ -38,7 +38,7 @@ pub fn edge_places(vars: usize, edge: &Edge) -> usize
 }
 
 /// A copy of a list.
-pub fn copied(alloc: Global, atoms: &[Atom]) -> Result<Vec<Atom>, AllocError>
+pub fn copy_atoms(alloc: Global, atoms: &[Atom]) -> Result<Vec<Atom>, AllocError>
     ensures { IfOk result (λ v. v.items ≡ atoms.now) }
 {
     let mut copies = Vec::new(alloc);
@@ -54,7 +54,7 @@ fn cut(alloc: Global, atom: &Atom, places: usize) -> Result<Atom, AllocError>
 {
     let coefs = atom.coefs.as_slice();
     let count = coefs.len().min(places);
-    bounded(alloc, &coefs[..count], atom.c0)
+    row_atom(alloc, &coefs[..count], atom.c0)
 }
 
 /// Atoms, and behind them the guard of an edge at so many places: an edge that chooses no value

@@ -60,7 +60,7 @@ fn lex_fault(fault: LexFault) -> Fault
 }
 
 /// The tokens of a text.
-fn lexed(alloc: Global, text: &[u8]) -> Result<Vec<Token>, Fault>
+fn lex(alloc: Global, text: &[u8]) -> Result<Vec<Token>, Fault>
     ensures tokens { IfOk result (λ v. Tokens 0 text.now v.items) }
     ensures ascii { OnOk result (IsAscii text.now) }
     ensures fault { IfErr result
@@ -111,7 +111,7 @@ fn read_proc(alloc: Global, text: &[u8]) -> Result<Proc, Fault>
     ensures program { IfOk result (λ p. IsProgram p) }
     ensures fault { IfErr result (λ f. (f.kind ≡ Kind.NoMemory) ⊎ SourceOutcome text.now (refuses f)) }
 {
-    let tokens = lexed(alloc, text)?;
+    let tokens = lex(alloc, text)?;
     let source = source_of(alloc, text, tokens.as_slice())?;
     let body = source.body;
     if let Some(fault) = body.fault {
@@ -149,7 +149,7 @@ fn read_when(alloc: Global, text: &[u8], p: &Proc) -> Result<Vec<Vec<Atom>>, Fau
     ensures fault { IfErr result
         (λ f. (f.kind ≡ Kind.NoMemory) ⊎ ConditionOutcome (params_of p.now) text.now (refuses f)) }
 {
-    let tokens = lexed(alloc, text)?;
+    let tokens = lex(alloc, text)?;
     let scope = Scope {
         text,
         names: params(p),
@@ -178,7 +178,7 @@ fn too_long() -> ParseFault
 }
 
 /// A fault with the line and the column of its byte.
-fn told(text: &[u8], fault: Fault) -> ParseFault
+fn locate(text: &[u8], fault: Fault) -> ParseFault
     requires { length text.now ≤ 65536 }
     ensures kind { result.kind ≡ fault.kind }
     ensures want { fault.kind ≡ Kind.NoMemory → (result.line ≡ 0) × (result.col ≡ 0) }
@@ -219,7 +219,7 @@ pub fn parse_proc(alloc: Global, text: &[u8]) -> Result<Proc, ParseFault>
     }
     match read_proc(alloc, text) {
         Ok(found) => Ok(found),
-        Err(fault) => Err(told(text, fault)),
+        Err(fault) => Err(locate(text, fault)),
     }
 }
 
@@ -252,10 +252,10 @@ pub fn parse_when(alloc: Global, text: &[u8], p: &Proc) -> Result<Items<Items<At
     }
     let cases = match read_when(alloc, text, p) {
         Ok(found) => found,
-        Err(fault) => return Err(told(text, fault)),
+        Err(fault) => return Err(locate(text, fault)),
     };
     match lists(alloc, cases) {
         Ok(found) => Ok(found),
-        Err(_) => Err(told(text, Fault::want())),
+        Err(_) => Err(locate(text, Fault::want())),
     }
 }

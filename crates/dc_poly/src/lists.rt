@@ -32,7 +32,7 @@ pub(crate) fn append(alloc: Global, out: &mut Vec<Term>, terms: &[Term]) -> Resu
 }
 
 // The sum of two ordered lists, by one merge.
-pub(crate) fn merged(alloc: Global, left: &[Term], right: &[Term]) -> Result<Vec<Term>, AllocError>
+pub(crate) fn merge(alloc: Global, left: &[Term], right: &[Term]) -> Result<Vec<Term>, AllocError>
     requires left { Canonical left.now }
     requires right { Canonical right.now }
     requires light { weight left.now + weight right.now ≤ largest }
@@ -99,7 +99,7 @@ pub(crate) fn product(alloc: Global, left: &[Term], right: &[Term]) -> Result<Ve
     'terms: while k > 0 {
         k -= 1;
         let part = shift(alloc, &left[k], right)?;
-        sum = merged(alloc, part.as_slice(), sum.as_slice())?;
+        sum = merge(alloc, part.as_slice(), sum.as_slice())?;
     }
     Ok(sum)
 }

@@ -7,7 +7,7 @@ ghost use Rattle.dc_poly.specs.Sums.{sum_of, negation_of, product_of, compositio
 ghost use Rattle.dc_poly.specs.Conditions.{CanAdd, CanMul, CanSubst};
 
 use super::composition::{at_values, common_places};
-use super::lists::{append, constant, merged, product};
+use super::lists::{append, constant, merge, product};
 use super::{Mono, Term};
 use std::alloc::{AllocError, Global};
 use std::marker::Model;
@@ -85,7 +85,7 @@ impl Poly {
     {
         Ok(Poly {
             places: self.places,
-            terms: merged(alloc, self.terms.as_slice(), other.terms.as_slice())?,
+            terms: merge(alloc, self.terms.as_slice(), other.terms.as_slice())?,
         })
     }
 
@@ -141,7 +141,7 @@ impl Poly {
         'terms: while k > 0 {
             k -= 1;
             let part = at_values(alloc, places, &list[k], values)?;
-            terms = merged(alloc, part.as_slice(), terms.as_slice())?;
+            terms = merge(alloc, part.as_slice(), terms.as_slice())?;
         }
         Ok(Poly { places, terms })
     }

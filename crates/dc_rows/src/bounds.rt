@@ -41,7 +41,7 @@ fn add_near(bounds: &mut Vec<i64>, size: u64) -> Result<(), AllocError>
 }
 
 // The bounds next to the literals and the constants, with repeats.
-fn listed(alloc: Global, s: &System, when: &[Atom]) -> Result<Vec<i64>, AllocError>
+fn list_bounds(alloc: Global, s: &System, when: &[Atom]) -> Result<Vec<i64>, AllocError>
     requires literals { AllByRecursion (λ (k : ℕ). k ≤ 2147483647) s.now.literals }
     requires atoms { AllAtoms (IsAtom s.now.params) when.now }
     ensures { IfOk result
@@ -64,7 +64,7 @@ pub(crate) fn gather(alloc: Global, s: &System, when: &[Atom]) -> Result<Vec<i64
     requires atoms { AllAtoms (IsAtom s.now.params) when.now }
     ensures { IfOk result (λ bounds. bounds.items ≡ candidate_bounds s.now when.now) }
 {
-    let mut bounds = listed(alloc, s, when)?;
+    let mut bounds = list_bounds(alloc, s, when)?;
     bounds.sort_unstable();
     bounds.dedup();
     Ok(bounds)

@@ -67,16 +67,16 @@ fn first_entry(p: &Problem, row: usize, col: usize) -> i128
 {
     let n = p.columns.len();
     if col < n {
-        signed(p.b[row], coefficient(&p.columns[col], row))
+        with_sign(p.b[row], coefficient(&p.columns[col], row))
     } else if col < n + p.rows {
         if col == n + row { 1 } else { 0 }
     } else {
-        signed(p.b[row], p.b[row])
+        with_sign(p.b[row], p.b[row])
     }
 }
 
 /// `x`, negated where the right side `b` is negative.
-fn signed(b: i128, x: i128) -> i128
+fn with_sign(b: i128, x: i128) -> i128
     requires { IsSmall x }
     ensures { result ≡ signed b x }
 {

@@ -25,7 +25,7 @@ fn product(coef: &i64, value: &Poly, mono: &Mono) -> i128
 }
 
 // The coefficient of a monomial in a sum of values, each times a coefficient.
-fn combined(coefs: &[i64], values: &[Poly], mono: &Mono) -> i128
+fn combination(coefs: &[i64], values: &[Poly], mono: &Mono) -> i128
     requires few { length coefs.now ≤ 11 }
     requires coefs { AllFit coefs.now }
     requires values { AllByRecursion IsSmall values.now }
@@ -57,7 +57,7 @@ fn atom_with(
 {
     let coefs = atom.coefs.as_slice();
     let one = Mono::one(alloc, places)?;
-    let sum = combined(coefs, values, &one);
+    let sum = combination(coefs, values, &one);
     let constant = plus(&atom.c0, &sum);
     if exceeds(&constant, MOST_CONSTANT) {
         return Ok(None);
@@ -65,7 +65,7 @@ fn atom_with(
     let mut all = Vec::new(alloc);
     for k in 0..places {
         let unit = Mono::unit(alloc, k, places)?;
-        let coef = combined(coefs, values, &unit);
+        let coef = combination(coefs, values, &unit);
         if exceeds(&coef, MOST_COEFFICIENT) {
             return Ok(None);
         }

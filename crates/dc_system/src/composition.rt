@@ -145,13 +145,13 @@ pub fn compose(
         (λ o. IfSome o (λ e. (s : State) (c : ℤ) (t : State) → length s ≡ vars → Crosses e s c t
         ↔ Then (Crosses first.now) (Crosses second.now) s c t)) }
 {
-    let composed = composed(alloc, first, second, vars)?;
+    let composed = compose_parts(alloc, first, second, vars)?;
     Ok(composed)
 }
 
 // The composed edge, where there is one.
 #[tactic(auto, using(crate::proofs::Composing::composing))]
-fn composed(
+fn compose_parts(
     alloc: Global,
     first: &Edge,
     second: &Edge,

@@ -17,7 +17,7 @@ use sqlite_items::Items;
 use std::alloc::{AllocError, Global};
 
 // The variables themselves.
-fn kept(alloc: Global, vars: usize) -> Result<Vec<Poly>, AllocError>
+fn variables(alloc: Global, vars: usize) -> Result<Vec<Poly>, AllocError>
     requires { vars ≤ 10 }
     ensures { IfOk result (λ v. v.items ≡ unchanged vars) }
 {
@@ -43,7 +43,7 @@ fn test(
         from,
         to,
         guard: Items::from_vec(guard),
-        update: Items::from_vec(kept(alloc, vars)?),
+        update: Items::from_vec(variables(alloc, vars)?),
         any: false,
         cost: Poly::constant(alloc, 0, vars + 1)?,
     })
@@ -84,7 +84,7 @@ fn assignment(
     requires inside { index < vars }
     ensures { IfOk result (λ e. e ≡ set_edge vars from to guard.items index value any) }
 {
-    let mut update = kept(alloc, vars)?;
+    let mut update = variables(alloc, vars)?;
     update[index] = value;
     Ok(Edge {
         from,
@@ -111,7 +111,7 @@ fn payment(
         from,
         to,
         guard: Items::new(alloc),
-        update: Items::from_vec(kept(alloc, vars)?),
+        update: Items::from_vec(variables(alloc, vars)?),
         any: false,
         cost,
     })

@@ -21,7 +21,7 @@ const MOST_LOCATIONS: u64 = 128;
 const MOST_EDGES: usize = 512;
 
 // The system of a procedure, within the limits.
-fn made(alloc: Global, p: &Proc) -> Result<System, SystemFault>
+fn build_system(alloc: Global, p: &Proc) -> Result<System, SystemFault>
     requires { IsProgram p.now }
     ensures system { IfOk result (λ s. s ≡ system_of p.now) }
     ensures within { IfOk result (λ s. size_fault p.now ≡ None) }
@@ -77,6 +77,6 @@ pub fn build(alloc: Global, p: &Proc) -> Result<System, SystemFault>
         (λ s. (x : State) (c : ℤ) (t : State) → length x ≡ s.vars → Through s x c t
         ↔ Run p.now.body x c t) }
 {
-    let system = made(alloc, p)?;
+    let system = build_system(alloc, p)?;
     Ok(system)
 }

@@ -43,7 +43,7 @@ struct Reading {
 }
 
 // The trace, where its last line is read and nothing stands behind it.
-fn finished(stage: Stage, rest: &[u8]) -> Option<Trace>
+fn finish(stage: Stage, rest: &[u8]) -> Option<Trace>
     ensures { MatchOption result ((t : Whole) → stage ≡ Stage.Done t → ¬ (rest.now ≡ []))
         (λ t. (stage ≡ Stage.Done t) × (rest.now ≡ [])) }
 {
@@ -72,7 +72,7 @@ fn read_lines(alloc: Global, text: &[u8]) -> Result<Reading, AllocError>
     }
     Ok(Reading {
         line,
-        whole: finished(stage, rest),
+        whole: finish(stage, rest),
     })
 }
 

@@ -19,7 +19,7 @@ pub enum Stage {
 }
 
 // The list of a line that begins with this word; `None` exactly where the line is no such one.
-fn listed(alloc: Global, line: &[u8], word: &[u8]) -> Result<Option<Items<i64>>, AllocError>
+fn read_list(alloc: Global, line: &[u8], word: &[u8]) -> Result<Option<Items<i64>>, AllocError>
     ensures { IfOk result
         (λ o. MatchOption o ((zs : List ℤ) → ¬ IsListLine word.now zs line.now)
         (λ zs. IsListLine word.now zs line.now)) }
@@ -39,11 +39,11 @@ impl Stage {
         ensures { IfOk result (λ o. Steps self line.now o) }
     {
         match self {
-            Stage::Start => match listed(alloc, line, b"input")? {
+            Stage::Start => match read_list(alloc, line, b"input")? {
                 Some(input) => Ok(Some(Stage::Input(input))),
                 None => Ok(None),
             },
-            Stage::Input(input) => match listed(alloc, line, b"choices")? {
+            Stage::Input(input) => match read_list(alloc, line, b"choices")? {
                 Some(choices) => Ok(Some(Stage::Choices(Trace { input, choices }))),
                 None => Ok(None),
             },

@@ -9,7 +9,7 @@ use clap::{Arg, ArgAction, value_parser};
 use std::alloc::Global;
 
 /// A positional that has to be there.
-pub fn required<'a>(alloc: Global, id: &'a str) -> Arg<'a>
+pub fn positional<'a>(alloc: Global, id: &'a str) -> Arg<'a>
     ensures rule { rule_of result ≡ required id.entry.now }
     ensures local { result.global ≡ false }
 {
@@ -21,7 +21,7 @@ pub fn required_number<'a>(alloc: Global, id: &'a str, parser: ValueParser<'a>) 
     ensures rule { rule_of result ≡ read_by parser.entry (required id.entry.now) }
     ensures local { result.global ≡ false }
 {
-    required(alloc, id).value_parser(parser)
+    positional(alloc, id).value_parser(parser)
 }
 
 /// An option `--id` that takes a value.

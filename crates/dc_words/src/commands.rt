@@ -4,7 +4,7 @@ ghost use Rattle.clap.specs.Simple.{app_of};
 ghost use Rattle.dc_words.specs.Rules.{HasRows, with_rules, sources_rules, settings_rules, analyse_with, check, sample};
 
 use crate::arguments::{
-    number, numbers_u8, numbers_u32, numbers_u64, option, required, required_number, rows,
+    number, numbers_u8, numbers_u32, numbers_u64, option, positional, required_number, rows,
 };
 use clap::Command;
 use std::alloc::{AllocError, Global};
@@ -21,7 +21,7 @@ pub fn analyse<'a>(alloc: Global) -> Result<Command<'a>, AllocError>
 pub fn check<'a>(alloc: Global) -> Result<Command<'a>, AllocError>
     ensures { IfOk result (λ c. app_of c ≡ check) }
 {
-    with_sources(alloc, Command::new(alloc, "check"))?.arg(required(alloc, "CERT"))
+    with_sources(alloc, Command::new(alloc, "check"))?.arg(positional(alloc, "CERT"))
 }
 
 /// `sample SEED COUNT`.
@@ -38,8 +38,8 @@ fn with_sources<'a>(alloc: Global, command: Command<'a>) -> Result<Command<'a>, 
     ensures { IfOk result (λ c. app_of c ≡ with_rules sources_rules (app_of command.entry)) }
 {
     command
-        .arg(required(alloc, "NEW"))?
-        .arg(required(alloc, "OLD"))?
+        .arg(positional(alloc, "NEW"))?
+        .arg(positional(alloc, "OLD"))?
         .arg(option(alloc, "when"))
 }
 

@@ -45,7 +45,7 @@ impl WorkList {
         ensures { IfOk result (λ w. w ≡ record { edges = edges; numbers = [] }) }
     {
         Ok(WorkList {
-            places: unlinked(alloc, edges)?,
+            places: no_links(alloc, edges)?,
             first: None,
         })
     }
@@ -87,7 +87,7 @@ impl WorkList {
 }
 
 /// So many places without links.
-fn unlinked(alloc: Global, edges: usize) -> Result<Vec<Option<Links>>, AllocError>
+fn no_links(alloc: Global, edges: usize) -> Result<Vec<Option<Links>>, AllocError>
     ensures { IfOk result (λ v. v.items ≡ replicate edges None) }
 {
     vec![in alloc; None; edges]

@@ -3,7 +3,7 @@ use Rattle.dc_affine.proofs.condition.+conjunctions.Goals as goal
 
 pub returns-in_ok-comparison-in-Cmp-clause-cases : goal.returns-in_ok-comparison-in-Cmp-clause-cases
 returns-in_ok-comparison-in-Cmp-clause-cases t c =
-    made-Cmp c.args.places c.args.c.now c.in-Cmp.a c.in-Cmp.rel c.in-Cmp.b c.args.negated _ _ _ c.in-Cmp.is c.in_ok-gap-in-Cmp.ensures.form c.turned.ensures c.in_ok-comparison-in-Cmp.ensures
+    made-Cmp c.args.places c.args.c.now c.in-Cmp.a c.in-Cmp.rel c.in-Cmp.b c.args.negated _ _ _ c.in-Cmp.is c.in_ok-gap-in-Cmp.ensures.form c.opposite_if.ensures c.in_ok-comparison-in-Cmp.ensures
 
 pub returns-in_ok-combine-in-And-clause-cases : goal.returns-in_ok-combine-in-And-clause-cases
 returns-in_ok-combine-in-And-clause-cases t c =

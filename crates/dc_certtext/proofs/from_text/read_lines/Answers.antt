@@ -15,4 +15,4 @@ pub overflow_add-line : goal.overflow_add-line
 overflow_add-line c = (let x = reached_few Start Step c.args.text.now c.lines.rest.now c.lines.stage c.lines.line c.lines.invariant in let y = c.requires in omega arith)
 
 pub returns : goal.returns
-returns c = reached_end certificates c.args.text.now c.lines.rest.now c.lines.stage c.lines.line c.finished.result c.in_default.ensures c.finished.ensures c.lines.invariant
+returns c = reached_end certificates c.args.text.now c.lines.rest.now c.lines.stage c.lines.line c.finish.result c.in_default.ensures c.finish.ensures c.lines.invariant

@@ -14,6 +14,6 @@ pub returns : goal.returns
 returns c =
     let a : SFits w128 c.in-Some.num = search rules in
     let b : SFits w128 c.in-Some-denominator.den = search rules in
-    let h = simp to_z-of_z at c.reduced.ensures in
-    frac_end c.args.word.now _ _ c.in-Some.num c.in-Some-denominator.den c.reduced.result c.cut.ensures.front c.cut.ensures.rest c.in-Some.ensures.0 c.in-Some.ensures.1 c.in-Some-denominator.ensures.0 c.in-Some-denominator.ensures.1
+    let h = simp to_z-of_z at c.lowest_terms.ensures in
+    frac_end c.args.word.now _ _ c.in-Some.num c.in-Some-denominator.den c.lowest_terms.result c.cut.ensures.front c.cut.ensures.rest c.in-Some.ensures.0 c.in-Some.ensures.1 c.in-Some-denominator.ensures.0 c.in-Some-denominator.ensures.1
     c.in-Some-denominator.ensures.2 h

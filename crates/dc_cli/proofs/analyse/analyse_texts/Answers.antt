@@ -17,10 +17,10 @@ pub returns-clause-ok : goal.returns-clause-ok
 returns-clause-ok c =
     let when = option_map (λ z. z.now) c.args.when in
     analyse_ends c.args.new.now c.args.old.now when c.args.settings.now (cross_meaning c.certificate_of.new.tableau) c.in_ok-c.c c.in_ok-c.ensures.ok
-    c.written.result c.written.ensures.ok
+    c.output_of.result c.output_of.ensures.ok
 
 pub returns-clause-refused : goal.returns-clause-refused
 returns-clause-refused c =
     let when = option_map (λ z. z.now) c.args.when in
     analyse_refused c.args.new.now c.args.old.now when c.args.settings.now (cross_meaning c.certificate_of.new.tableau) c.in_ok-c.c c.in_ok-c.ensures.ok
-    c.written.result c.written.ensures.refused
+    c.output_of.result c.output_of.ensures.refused

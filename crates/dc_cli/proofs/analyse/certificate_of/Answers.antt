@@ -16,11 +16,11 @@ pub returns-clause-ok : goal.returns-clause-ok
 returns-clause-ok c =
     let when = option_map (λ z. z.now) c.args.when in
     let v = c.in_ok-versions.versions in
-    analysed c.args.new.now c.args.old.now when c.args.settings.now v.new v.old v.cases (cross_meaning c.certified.new.tableau) c.certified.result
-    c.in_ok-versions.ensures.said c.certified.ensures.ok c.certified.ensures.ranges
+    analysed c.args.new.now c.args.old.now when c.args.settings.now v.new v.old v.cases (cross_meaning c.certify.new.tableau) c.certify.result
+    c.in_ok-versions.ensures.said c.certify.ensures.ok c.certify.ensures.ranges
 
 pub returns-clause-refused : goal.returns-clause-refused
 returns-clause-refused c =
     let when = option_map (λ z. z.now) c.args.when in
     let v = c.in_ok-versions.versions in
-    unanalysed c.args.new.now c.args.old.now when c.args.settings.now v.new v.old v.cases c.certified.result c.in_ok-versions.ensures.said c.certified.ensures.refused
+    unanalysed c.args.new.now c.args.old.now when c.args.settings.now v.new v.old v.cases c.certify.result c.in_ok-versions.ensures.said c.certify.ensures.refused

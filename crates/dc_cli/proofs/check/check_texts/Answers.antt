@@ -24,10 +24,10 @@ pub returns-clause-ok : goal.returns-clause-ok
 returns-clause-ok c =
     let v = c.in_ok-versions.versions in
     check_ends c.args.new.now c.args.old.now c.args.cert.now (option_map (λ z. z.now) c.args.when) c.in_ok-c.c c.in_ok-c.ensures.text c.in_ok-c.ensures.short
-    v.new v.old v.cases c.in_ok-versions.ensures.said c.checked.result c.checked.ensures.ok
+    v.new v.old v.cases c.in_ok-versions.ensures.said c.judge.result c.judge.ensures.ok
 
 pub returns-clause-refused : goal.returns-clause-refused
 returns-clause-refused c =
     let v = c.in_ok-versions.versions in
     check_refused c.args.new.now c.args.old.now c.args.cert.now (option_map (λ z. z.now) c.args.when) c.in_ok-c.c c.in_ok-c.ensures.text c.in_ok-c.ensures.short
-    v.new v.old v.cases c.in_ok-versions.ensures.said c.checked.result c.checked.ensures.refused
+    v.new v.old v.cases c.in_ok-versions.ensures.said c.judge.result c.judge.ensures.refused

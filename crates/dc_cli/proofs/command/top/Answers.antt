@@ -9,10 +9,10 @@ use Rattle.dc_cli.proofs.command.top.Goals as goal
 pub returns-in-Ok-clause-headline : goal.returns-in-Ok-clause-headline
 returns-in-Ok-clause-headline g c =
     let o = outside (map string_bytes c.args.words.now.items)
-    (visit_of g.S.Store.files g.S.Store.faults g.S.Store.call c.args.store.now c.printed.new.store)
-    (stream_of g.O.Sink.written g.O.Sink.faults c.args.out.now c.printed.new.out)
+    (visit_of g.S.Store.files g.S.Store.faults g.S.Store.call c.args.store.now c.print_answer.new.store)
+    (stream_of g.O.Sink.written g.O.Sink.faults c.args.out.now c.print_answer.new.out)
     (stream_of g.E.Sink.written g.E.Sink.faults c.args.err.now c.args.err.now) in
-    let left = cross_meaning c.printed.new.tableau in
+    let left = cross_meaning c.print_answer.new.tableau in
     let n = c.in-Ok.status in
     let p = prints o left n c.in-Ok.ensures.ok in
     λ _. says_headline o left n p
@@ -20,10 +20,10 @@ returns-in-Ok-clause-headline g c =
 pub returns-in-Ok-clause-printed : goal.returns-in-Ok-clause-printed
 returns-in-Ok-clause-printed g c =
     let o = outside (map string_bytes c.args.words.now.items)
-    (visit_of g.S.Store.files g.S.Store.faults g.S.Store.call c.args.store.now c.printed.new.store)
-    (stream_of g.O.Sink.written g.O.Sink.faults c.args.out.now c.printed.new.out)
+    (visit_of g.S.Store.files g.S.Store.faults g.S.Store.call c.args.store.now c.print_answer.new.store)
+    (stream_of g.O.Sink.written g.O.Sink.faults c.args.out.now c.print_answer.new.out)
     (stream_of g.E.Sink.written g.E.Sink.faults c.args.err.now c.args.err.now) in
-    let left = cross_meaning c.printed.new.tableau in
+    let left = cross_meaning c.print_answer.new.tableau in
     let n = c.in-Ok.status in
     let p = prints o left n c.in-Ok.ensures.ok in
     λ _. p
@@ -31,10 +31,10 @@ returns-in-Ok-clause-printed g c =
 pub returns-in-Ok-clause-refused : goal.returns-in-Ok-clause-refused
 returns-in-Ok-clause-refused g c =
     let o = outside (map string_bytes c.args.words.now.items)
-    (visit_of g.S.Store.files g.S.Store.faults g.S.Store.call c.args.store.now c.printed.new.store)
-    (stream_of g.O.Sink.written g.O.Sink.faults c.args.out.now c.printed.new.out)
+    (visit_of g.S.Store.files g.S.Store.faults g.S.Store.call c.args.store.now c.print_answer.new.store)
+    (stream_of g.O.Sink.written g.O.Sink.faults c.args.out.now c.print_answer.new.out)
     (stream_of g.E.Sink.written g.E.Sink.faults c.args.err.now c.args.err.now) in
-    let left = cross_meaning c.printed.new.tableau in
+    let left = cross_meaning c.print_answer.new.tableau in
     let n = c.in-Ok.status in
     let p = prints o left n c.in-Ok.ensures.ok in
     λ h. absurd {A = Refuses o n} (h (is_answered o left n p))
@@ -42,10 +42,10 @@ returns-in-Ok-clause-refused g c =
 pub returns-in-Ok-clause-complete : goal.returns-in-Ok-clause-complete
 returns-in-Ok-clause-complete g c =
     let o = outside (map string_bytes c.args.words.now.items)
-    (visit_of g.S.Store.files g.S.Store.faults g.S.Store.call c.args.store.now c.printed.new.store)
-    (stream_of g.O.Sink.written g.O.Sink.faults c.args.out.now c.printed.new.out)
+    (visit_of g.S.Store.files g.S.Store.faults g.S.Store.call c.args.store.now c.print_answer.new.store)
+    (stream_of g.O.Sink.written g.O.Sink.faults c.args.out.now c.print_answer.new.out)
     (stream_of g.E.Sink.written g.E.Sink.faults c.args.err.now c.args.err.now) in
-    let left = cross_meaning c.printed.new.tableau in
+    let left = cross_meaning c.print_answer.new.tableau in
     let n = c.in-Ok.status in
     let p = prints o left n c.in-Ok.ensures.ok in
     prints_complete o n left p
@@ -53,10 +53,10 @@ returns-in-Ok-clause-complete g c =
 pub returns-in-Ok-clause-missing : goal.returns-in-Ok-clause-missing
 returns-in-Ok-clause-missing g c =
     let o = outside (map string_bytes c.args.words.now.items)
-    (visit_of g.S.Store.files g.S.Store.faults g.S.Store.call c.args.store.now c.printed.new.store)
-    (stream_of g.O.Sink.written g.O.Sink.faults c.args.out.now c.printed.new.out)
+    (visit_of g.S.Store.files g.S.Store.faults g.S.Store.call c.args.store.now c.print_answer.new.store)
+    (stream_of g.O.Sink.written g.O.Sink.faults c.args.out.now c.print_answer.new.out)
     (stream_of g.E.Sink.written g.E.Sink.faults c.args.err.now c.args.err.now) in
-    let left = cross_meaning c.printed.new.tableau in
+    let left = cross_meaning c.print_answer.new.tableau in
     let n = c.in-Ok.status in
     let p = prints o left n c.in-Ok.ensures.ok in
     prints_found o n left p
@@ -64,10 +64,10 @@ returns-in-Ok-clause-missing g c =
 pub returns-in-Ok-clause-untouched : goal.returns-in-Ok-clause-untouched
 returns-in-Ok-clause-untouched g c =
     let o = outside (map string_bytes c.args.words.now.items)
-    (visit_of g.S.Store.files g.S.Store.faults g.S.Store.call c.args.store.now c.printed.new.store)
-    (stream_of g.O.Sink.written g.O.Sink.faults c.args.out.now c.printed.new.out)
+    (visit_of g.S.Store.files g.S.Store.faults g.S.Store.call c.args.store.now c.print_answer.new.store)
+    (stream_of g.O.Sink.written g.O.Sink.faults c.args.out.now c.print_answer.new.out)
     (stream_of g.E.Sink.written g.E.Sink.faults c.args.err.now c.args.err.now) in
-    let left = cross_meaning c.printed.new.tableau in
+    let left = cross_meaning c.print_answer.new.tableau in
     let n = c.in-Ok.status in
     let p = prints o left n c.in-Ok.ensures.ok in
     λ h w. absurd (h (is_answered o left n p))
@@ -75,8 +75,8 @@ returns-in-Ok-clause-untouched g c =
 pub returns-in-Err-clause-headline : goal.returns-in-Err-clause-headline
 returns-in-Err-clause-headline g c =
     let o = outside (map string_bytes c.args.words.now.items)
-    (visit_of g.S.Store.files g.S.Store.faults g.S.Store.call c.args.store.now c.printed.new.store)
-    (stream_of g.O.Sink.written g.O.Sink.faults c.args.out.now c.printed.new.out)
+    (visit_of g.S.Store.files g.S.Store.faults g.S.Store.call c.args.store.now c.print_answer.new.store)
+    (stream_of g.O.Sink.written g.O.Sink.faults c.args.out.now c.print_answer.new.out)
     (stream_of g.E.Sink.written g.E.Sink.faults c.args.err.now c.report.new.err) in
     let z = c.in-Err.refusal in
     let n = c.report.result in
@@ -85,8 +85,8 @@ returns-in-Err-clause-headline g c =
 pub returns-in-Err-clause-printed : goal.returns-in-Err-clause-printed
 returns-in-Err-clause-printed g c =
     let o = outside (map string_bytes c.args.words.now.items)
-    (visit_of g.S.Store.files g.S.Store.faults g.S.Store.call c.args.store.now c.printed.new.store)
-    (stream_of g.O.Sink.written g.O.Sink.faults c.args.out.now c.printed.new.out)
+    (visit_of g.S.Store.files g.S.Store.faults g.S.Store.call c.args.store.now c.print_answer.new.store)
+    (stream_of g.O.Sink.written g.O.Sink.faults c.args.out.now c.print_answer.new.out)
     (stream_of g.E.Sink.written g.E.Sink.faults c.args.err.now c.report.new.err) in
     let z = c.in-Err.refusal in
     let n = c.report.result in
@@ -95,8 +95,8 @@ returns-in-Err-clause-printed g c =
 pub returns-in-Err-clause-refused : goal.returns-in-Err-clause-refused
 returns-in-Err-clause-refused g c =
     let o = outside (map string_bytes c.args.words.now.items)
-    (visit_of g.S.Store.files g.S.Store.faults g.S.Store.call c.args.store.now c.printed.new.store)
-    (stream_of g.O.Sink.written g.O.Sink.faults c.args.out.now c.printed.new.out)
+    (visit_of g.S.Store.files g.S.Store.faults g.S.Store.call c.args.store.now c.print_answer.new.store)
+    (stream_of g.O.Sink.written g.O.Sink.faults c.args.out.now c.print_answer.new.out)
     (stream_of g.E.Sink.written g.E.Sink.faults c.args.err.now c.report.new.err) in
     let z = c.in-Err.refusal in
     let n = c.report.result in
@@ -105,8 +105,8 @@ returns-in-Err-clause-refused g c =
 pub returns-in-Err-clause-complete : goal.returns-in-Err-clause-complete
 returns-in-Err-clause-complete g c =
     let o = outside (map string_bytes c.args.words.now.items)
-    (visit_of g.S.Store.files g.S.Store.faults g.S.Store.call c.args.store.now c.printed.new.store)
-    (stream_of g.O.Sink.written g.O.Sink.faults c.args.out.now c.printed.new.out)
+    (visit_of g.S.Store.files g.S.Store.faults g.S.Store.call c.args.store.now c.print_answer.new.store)
+    (stream_of g.O.Sink.written g.O.Sink.faults c.args.out.now c.print_answer.new.out)
     (stream_of g.E.Sink.written g.E.Sink.faults c.args.err.now c.report.new.err) in
     let z = c.in-Err.refusal in
     let n = c.report.result in
@@ -115,8 +115,8 @@ returns-in-Err-clause-complete g c =
 pub returns-in-Err-clause-missing : goal.returns-in-Err-clause-missing
 returns-in-Err-clause-missing g c =
     let o = outside (map string_bytes c.args.words.now.items)
-    (visit_of g.S.Store.files g.S.Store.faults g.S.Store.call c.args.store.now c.printed.new.store)
-    (stream_of g.O.Sink.written g.O.Sink.faults c.args.out.now c.printed.new.out)
+    (visit_of g.S.Store.files g.S.Store.faults g.S.Store.call c.args.store.now c.print_answer.new.store)
+    (stream_of g.O.Sink.written g.O.Sink.faults c.args.out.now c.print_answer.new.out)
     (stream_of g.E.Sink.written g.E.Sink.faults c.args.err.now c.report.new.err) in
     let z = c.in-Err.refusal in
     let n = c.report.result in
@@ -125,8 +125,8 @@ returns-in-Err-clause-missing g c =
 pub returns-in-Err-clause-untouched : goal.returns-in-Err-clause-untouched
 returns-in-Err-clause-untouched g c =
     let o = outside (map string_bytes c.args.words.now.items)
-    (visit_of g.S.Store.files g.S.Store.faults g.S.Store.call c.args.store.now c.printed.new.store)
-    (stream_of g.O.Sink.written g.O.Sink.faults c.args.out.now c.printed.new.out)
+    (visit_of g.S.Store.files g.S.Store.faults g.S.Store.call c.args.store.now c.print_answer.new.store)
+    (stream_of g.O.Sink.written g.O.Sink.faults c.args.out.now c.print_answer.new.out)
     (stream_of g.E.Sink.written g.E.Sink.faults c.args.err.now c.report.new.err) in
     let z = c.in-Err.refusal in
     let n = c.report.result in
@@ -135,8 +135,8 @@ returns-in-Err-clause-untouched g c =
 pub returns-in-Err-clause-quiet : goal.returns-in-Err-clause-quiet
 returns-in-Err-clause-quiet g c =
     let o = outside (map string_bytes c.args.words.now.items)
-    (visit_of g.S.Store.files g.S.Store.faults g.S.Store.call c.args.store.now c.printed.new.store)
-    (stream_of g.O.Sink.written g.O.Sink.faults c.args.out.now c.printed.new.out)
+    (visit_of g.S.Store.files g.S.Store.faults g.S.Store.call c.args.store.now c.print_answer.new.store)
+    (stream_of g.O.Sink.written g.O.Sink.faults c.args.out.now c.print_answer.new.out)
     (stream_of g.E.Sink.written g.E.Sink.faults c.args.err.now c.report.new.err) in
     let z = c.in-Err.refusal in
     let n = c.report.result in

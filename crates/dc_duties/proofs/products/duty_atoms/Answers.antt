@@ -21,7 +21,7 @@ pub case-requires-clause-there : goal.case-requires-clause-there
 case-requires-clause-there c = subst (IsThere (lent c.args.programs.now)) c.in-AtEntry.is c.requires.there
 
 pub returns-in-Along : goal.returns-in-Along
-returns-in-Along c = ok_so c.joined.result (λ v e. e ∙ ap₂ ◌++◌ c.atoms.ensures.atoms c.as_slice.ensures ∙ ap (edge_atoms (lent c.args.programs.now) c.in-Along.side) c.edge-edge.ensures.edge ∙ sym (ap (atoms_of (lent c.args.programs.now)) c.in-Along.is)) c.joined.ensures
+returns-in-Along c = ok_so c.join.result (λ v e. e ∙ ap₂ ◌++◌ c.atoms.ensures.atoms c.as_slice.ensures ∙ ap (edge_atoms (lent c.args.programs.now) c.in-Along.side) c.edge-edge.ensures.edge ∙ sym (ap (atoms_of (lent c.args.programs.now)) c.in-Along.is)) c.join.ensures
 
 pub returns-in-AtExit : goal.returns-in-AtExit
 returns-in-AtExit c = ok_so c.copies.result (λ v e. e ∙ c.atoms-in-AtExit.ensures.atoms ∙ ap (λ (s : System). atoms_at (lent c.args.programs.now) c.in-AtExit.side (s.locs - 1)) c.system.ensures.system ∙ sym (ap (atoms_of (lent c.args.programs.now)) c.in-AtExit.is)) c.copies.ensures

@@ -12,14 +12,14 @@ returns-in-Err-early_answers-clause-fault g c =
 
 pub check-requires-clause-certificate : goal.check-requires-clause-certificate
 check-requires-clause-certificate g c =
-    is_certificate (input c.args.new.now c.args.old.now c.args.cases.now c.args.s.now) c.requires.input (g.T.Tableau.meaning c.made.new.tableau) c.in-Ok-made.certificate (c.in-Ok-made.ensures {u = tt}).certificate
+    is_certificate (input c.args.new.now c.args.old.now c.args.cases.now c.args.s.now) c.requires.input (g.T.Tableau.meaning c.make_certificate.new.tableau) c.in-Ok-make_certificate.certificate (c.in-Ok-make_certificate.ensures {u = tt}).certificate
 
 pub of_check-requires : goal.of_check-requires
 of_check-requires g c =
-    is_fold (input c.args.new.now c.args.old.now c.args.cases.now c.args.s.now) c.requires.input (g.T.Tableau.meaning c.made.new.tableau) c.in-Ok-made.certificate (c.in-Ok-made.ensures {u = tt}).certificate
+    is_fold (input c.args.new.now c.args.old.now c.args.cases.now c.args.s.now) c.requires.input (g.T.Tableau.meaning c.make_certificate.new.tableau) c.in-Ok-make_certificate.certificate (c.in-Ok-make_certificate.ensures {u = tt}).certificate
     c.in-Err-check.fault (c.in-Err-check.ensures {u = tt}).fault
 
 pub returns-clause-fault : goal.returns-clause-fault
 returns-clause-fault g c =
-    fold_fault (input c.args.new.now c.args.old.now c.args.cases.now c.args.s.now) c.requires.input (g.T.Tableau.meaning c.made.new.tableau) c.in-Ok-made.certificate (c.in-Ok-made.ensures {u = tt}).certificate
+    fold_fault (input c.args.new.now c.args.old.now c.args.cases.now c.args.s.now) c.requires.input (g.T.Tableau.meaning c.make_certificate.new.tableau) c.in-Ok-make_certificate.certificate (c.in-Ok-make_certificate.ensures {u = tt}).certificate
     c.in-Err-check.fault c.of_check.result (c.in-Err-check.ensures {u = tt}).fault c.of_check.ensures

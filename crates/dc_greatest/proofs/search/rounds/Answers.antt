@@ -37,26 +37,26 @@ returns-in-Err-clause-fault g c =
     let f = rw d at c.in-Err.ensures.fault in
     searching_fault t.side (graph t) t.cases.now t.live.now t.candidates.now t.budget c.loop-next.at.items c.loop-next.fresh c.loop-next.work.numbers c.loop-next.invariant.1 c.in-Err.fault f
 
-pub same-requires : goal.same-requires
-same-requires g c =
+pub are_same-requires : goal.are_same-requires
+are_same-requires g c =
     let d = c.deref.ensures.value in
     let x = c.deref-in-loop-next.ensures.value in
     let y = c.deref-in-loop-next-2.ensures.value in
     ap length x ∙ c.in-Ok.ensures.answer.shape.one_each ∙ sym c.loop-next.invariant.1.shape.one_each ∙ sym (ap length y)
 
-pub returns-then-same-clause-answer : goal.returns-then-same-clause-answer
-returns-then-same-clause-answer g c =
+pub returns-then-are_same-clause-answer : goal.returns-then-are_same-clause-answer
+returns-then-are_same-clause-answer g c =
     let t = c.args.t.now in
     let d = c.deref.ensures.value in
     let x = c.deref-in-loop-next.ensures.value in
     let y = c.deref-in-loop-next-2.ensures.value in
     let r = rw d at c.in-Ok.ensures.answer in
-    let e : c.in-Ok.next.items ≡ c.loop-next.at.items = sym x ∙ c.same.ensures.0 c.if-same.true ∙ y in
+    let e : c.in-Ok.next.items ≡ c.loop-next.at.items = sym x ∙ c.are_same.ensures.0 c.if-are_same.true ∙ y in
     let q = searching_end t.side (graph t) t.cases.now t.live.now t.candidates.now t.budget c.requires.lent.kind c.loop-next.at.items c.in-Ok.next.items c.loop-next.fresh c.loop-next.work.numbers c.loop-next.invariant.1 r e in
     record { shape = c.loop-next.invariant.1.shape; greatest = q.0; through = q.1 }
 
-pub changed-requires : goal.changed-requires
-changed-requires g c =
+pub changed_edges-requires : goal.changed_edges-requires
+changed_edges-requires g c =
     let u = c.deref-in-loop-next-3.ensures.value in
     let v = c.deref-in-loop-next-4.ensures.value in
     record {
@@ -74,7 +74,7 @@ loop-next-smaller g c =
     let r = rw d at c.in-Ok.ensures.answer in
     search_lighter t.side (graph t) t.cases.now t.live.now t.candidates.now t.budget c.requires.lent.kind
     c.loop-next.at.items c.in-Ok.next.items c.loop-next.fresh c.loop-next.work.numbers c.loop-next.invariant.1 r
-    (λ e. false≢true (sym c.if-same.false ∙ c.same.ensures.1 (x ∙ e ∙ sym y)))
+    (λ e. false≢true (sym c.if-are_same.false ∙ c.are_same.ensures.1 (x ∙ e ∙ sym y)))
 
 pub loop-next-preserved : goal.loop-next-preserved
 loop-next-preserved g c =
@@ -89,5 +89,5 @@ loop-next-preserved g c =
       c.in_ok-work-2.ensures.edges,
       searching_next t.side (graph t) t.cases.now t.live.now t.candidates.now t.budget c.requires.lent.kind
           c.loop-next.at.items c.in-Ok.next.items c.loop-next.fresh c.loop-next.work.numbers c.loop-next.invariant.1 r
-          (λ e. false≢true (sym c.if-same.false ∙ c.same.ensures.1 (x ∙ e ∙ sym y))) c.in_ok-work-2.work.numbers w,
+          (λ e. false≢true (sym c.if-are_same.false ∙ c.are_same.ensures.1 (x ∙ e ∙ sym y))) c.in_ok-work-2.work.numbers w,
     )

@@ -13,8 +13,8 @@ least_atoms-requires g c =
     at_least c.args.t.now c.args.location c.requires.lent c.requires.inside c.index-t-location.result
     c.as_slice-least.result.now c.deref.result.now c.as_slice-least.ensures (c.deref.ensures.value ∙ c.in_ok-rows.ensures)
 
-pub pruned-requires-clause-rows : goal.pruned-requires-clause-rows
-pruned-requires-clause-rows g c =
+pub prune_atoms-requires-clause-rows : goal.prune_atoms-requires-clause-rows
+prune_atoms-requires-clause-rows g c =
     at_listed c.args.t.now c.args.location c.requires.lent c.requires.inside c.index-t-location.result
     c.as_slice-least.result.now c.deref-2.result.now c.as_slice-least.ensures (c.deref-2.ensures.value ∙ c.in_ok-rows.ensures) c.if-f.false c.in_ok-atoms.atoms.items
     (c.in_ok-atoms.ensures ∙ ap (map (kept_atom c.args.t.now.candidates.now c.as_slice-least.result.now)) (c.deref.ensures.value ∙ sym c.deref-2.ensures.value))

@@ -17,11 +17,11 @@ column_count-count-requires-clause-not_many c = not_many (pair_of c.args.new.now
 pub returns-then-count-gt-COLUMNS-clause-fault : goal.returns-then-count-gt-COLUMNS-clause-fault
 returns-then-count-gt-COLUMNS-clause-fault c = too_many_columns (pair_of c.args.new.now c.args.old.now c.args.cases.now) c.args.degree c.args.products (flags_of c.args.new.now c.args.old.now c.args.live.now) c.requires.fit c.as_slice.result.now (c.as_slice.ensures.value ∙ c.in_ok-duties.ensures) c.column_count-count.result c.column_count-count.ensures c.if-count-gt-COLUMNS.true
 
-pub filled-requires-clause-there : goal.filled-requires-clause-there
-filled-requires-clause-there c = at_task (λ p d k. All (IsThere p) c.as_slice-2.result.now) (record { new = c.args.new; old = c.args.old; cases = c.args.cases }) c.args.degree c.args.products c.in_ok-task.task c.in_ok-task.ensures (all_there (pair_of c.args.new.now c.args.old.now c.args.cases.now) c.args.degree c.args.products (flags_of c.args.new.now c.args.old.now c.args.live.now) c.requires.fit c.as_slice-2.result.now (c.as_slice-2.ensures.value ∙ c.in_ok-duties.ensures))
+pub fill_table-requires-clause-there : goal.fill_table-requires-clause-there
+fill_table-requires-clause-there c = at_task (λ p d k. All (IsThere p) c.as_slice-2.result.now) (record { new = c.args.new; old = c.args.old; cases = c.args.cases }) c.args.degree c.args.products c.in_ok-task.task c.in_ok-task.ensures (all_there (pair_of c.args.new.now c.args.old.now c.args.cases.now) c.args.degree c.args.products (flags_of c.args.new.now c.args.old.now c.args.live.now) c.requires.fit c.as_slice-2.result.now (c.as_slice-2.ensures.value ∙ c.in_ok-duties.ensures))
 
-pub filled-requires-clause-few : goal.filled-requires-clause-few
-filled-requires-clause-few c =
+pub fill_table-requires-clause-few : goal.fill_table-requires-clause-few
+fill_table-requires-clause-few c =
     at_task (λ p d k. All (λ o. products_count p k o ≤ 8192) c.as_slice-2.result.now) (record { new = c.args.new; old = c.args.old; cases = c.args.cases }) c.args.degree c.args.products c.in_ok-task.task c.in_ok-task.ensures
     (few_products (pair_of c.args.new.now c.args.old.now c.args.cases.now) c.args.degree c.args.products (flags_of c.args.new.now c.args.old.now c.args.live.now) c.requires.fit c.as_slice-2.result.now (c.as_slice-2.ensures.value ∙ c.in_ok-duties.ensures) c.column_count-count.result (c.column_count-count.ensures ∙ ap (λ os. 2 * length (unknowns_of (pair_of c.args.new.now c.args.old.now c.args.cases.now) c.args.degree) + sum_by (products_count (pair_of c.args.new.now c.args.old.now c.args.cases.now) c.args.products) os) (c.as_slice.ensures.value ∙ sym c.as_slice-2.ensures.value)) c.if-count-gt-COLUMNS.false)
 

@@ -14,14 +14,14 @@ shift-requires-clause-low c = let d = degree_within (c.terms.k - 1) c.args.left.
 pub shift-requires-clause-light : goal.shift-requires-clause-light
 shift-requires-clause-light c = shift_light _ _ _ c.index-left-k.result (omega arith) c.index-left-k.is c.requires.light
 
-pub merged-requires-clause-left : goal.merged-requires-clause-left
-merged-requires-clause-left c =
+pub merge-requires-clause-left : goal.merge-requires-clause-left
+merge-requires-clause-left c =
     subst Canonical (sym (c.as_slice.ensures.value ∙ c.in_ok-part.ensures))
     (Canonical-shifted _ _ _ (nonzero_within _ _ c.index-left-k.result (omega arith) c.index-left-k.is c.requires.left) (shift_padded _ _ _ c.index-left-k.result (omega arith) c.index-left-k.is c.requires.padded) c.requires.right)
 
-pub merged-requires-clause-right : goal.merged-requires-clause-right
-merged-requires-clause-right c = subst Canonical (sym (c.as_slice-in-terms.ensures.value ∙ c.terms.invariant.so_far)) (Canonical-times (drop c.terms.k c.args.left.now) c.args.right.now)
+pub merge-requires-clause-right : goal.merge-requires-clause-right
+merge-requires-clause-right c = subst Canonical (sym (c.as_slice-in-terms.ensures.value ∙ c.terms.invariant.so_far)) (Canonical-times (drop c.terms.k c.args.left.now) c.args.right.now)
 
-pub merged-requires-clause-light : goal.merged-requires-clause-light
-merged-requires-clause-light c =
+pub merge-requires-clause-light : goal.merge-requires-clause-light
+merge-requires-clause-light c =
     times_light (c.terms.k - 1) _ _ c.index-left-k.result _ _ (omega arith) c.index-left-k.is (c.as_slice.ensures.value ∙ c.in_ok-part.ensures) (c.as_slice-in-terms.ensures.value ∙ c.terms.invariant.so_far ∙ ap (λ i. times (drop i c.args.left.now) c.args.right.now) (omega arith)) c.requires.light

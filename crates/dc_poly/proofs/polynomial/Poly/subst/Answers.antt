@@ -25,15 +25,15 @@ at_values-requires-clause-light c =
     part_light (c.terms.k - 1) c.as_slice-list.result.now c.args.values.now c.index-list-k.result (let a = c.terms.invariant.inside in omega arith) c.index-list-k.is
     (subst (λ (l : TermList). composed_weight l c.args.values.now ≤ largest) (sym (c.as_slice-list.ensures.value ∙ ap terms_in c.self.view_is)) c.requires.light)
 
-pub merged-requires-clause-left : goal.merged-requires-clause-left
-merged-requires-clause-left c =
+pub merge-requires-clause-left : goal.merge-requires-clause-left
+merge-requires-clause-left c =
     subst Canonical (sym (c.as_slice.ensures.value ∙ c.in_ok-part.ensures.terms)) (Canonical-term_at c.common_places-places.result c.index-list-k.result.coef c.index-list-k.result.mono c.args.values.now)
 
-pub merged-requires-clause-right : goal.merged-requires-clause-right
-merged-requires-clause-right c = subst Canonical (sym c.as_slice-in-terms.ensures.value) (round_order _ _ _ _ _ c.terms.invariant)
+pub merge-requires-clause-right : goal.merge-requires-clause-right
+merge-requires-clause-right c = subst Canonical (sym c.as_slice-in-terms.ensures.value) (round_order _ _ _ _ _ c.terms.invariant)
 
-pub merged-requires-clause-light : goal.merged-requires-clause-light
-merged-requires-clause-light c =
+pub merge-requires-clause-light : goal.merge-requires-clause-light
+merge-requires-clause-light c =
     subst (λ (s : TermList). weight c.as_slice.result.now + weight s ≤ largest) (sym c.as_slice-in-terms.ensures.value)
     (round_light c.common_places-places.result c.terms.k c.as_slice-list.result.now c.args.values.now c.index-list-k.result c.as_slice.result.now c.terms.terms.items c.terms-test.true c.index-list-k.is
     (c.as_slice.ensures.value ∙ c.in_ok-part.ensures.terms)
