@@ -7,8 +7,8 @@ ghost use Rattle.dc_certtext.specs.Stages.{Steps, closed_by};
 ghost use Rattle.dc_certtext.specs.Due.{certificate as certificate_of, with_vector as stage_with};
 
 use crate::step::{
-    between, cases, edges, end, entries, floor, heads, locations, main_line, main_vector, open_side,
-    sizes, start, version,
+    between, cases, edges, end, entries, floor, heads, locations, main_line, main_vector,
+    open_side, sizes, start, version,
 };
 use dc_affine::Atom;
 use dc_cert::{Body, Certificate, Claim, EdgeCert, Liveness, SideCert, Sparse};

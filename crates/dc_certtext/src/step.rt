@@ -210,7 +210,11 @@ pub(crate) fn heads(alloc: Global, line: &[u8], head: Head) -> Result<Option<Sta
 }
 
 // The first location of a side.
-pub(crate) fn open_side(alloc: Global, line: &[u8], front: Front) -> Result<Option<Stage>, AllocError>
+pub(crate) fn open_side(
+    alloc: Global,
+    line: &[u8],
+    front: Front,
+) -> Result<Option<Stage>, AllocError>
     ensures { IfOk result (λ o. Steps (Stage.Opened front) line.now o) }
 {
     let text = number_text(alloc, b"location ", 0)?;

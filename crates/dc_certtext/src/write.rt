@@ -63,7 +63,12 @@ fn put_shown(alloc: Global, out: &mut Vec<u8>, l: &Liveness) -> Result<(), Alloc
 }
 
 // A word and whether something is live.
-fn write_liveness(alloc: Global, out: &mut Vec<u8>, word: &[u8], l: &Liveness) -> Result<(), AllocError>
+fn write_liveness(
+    alloc: Global,
+    out: &mut Vec<u8>,
+    word: &[u8],
+    l: &Liveness,
+) -> Result<(), AllocError>
     ensures { OnOk result (out.new.items ≡ out.old.items ++ ended (shown_line word.now l.now ∷ [])) }
 {
     out.extend_from_slice(word)?;

@@ -113,7 +113,12 @@ fn sum(constant: &i64, more: &i128) -> i128
 }
 
 /// An atom after an edge's update, and whether it is affine there.
-fn move_atom(alloc: Global, s: &System, e: &Edge, atom: &Atom) -> Result<(WideAtom, bool), AllocError>
+fn move_atom(
+    alloc: Global,
+    s: &System,
+    e: &Edge,
+    atom: &Atom,
+) -> Result<(WideAtom, bool), AllocError>
     requires few { s.now.vars ≤ 10 }
     requires edge { IsEdgeOver s.now.vars e.now }
     requires atom { IsAtom 10 atom.now }

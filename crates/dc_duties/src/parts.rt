@@ -13,7 +13,7 @@ ghost use Rattle.dc_duties.specs.Sizes.{IsCoefficientOf};
 ghost use Rattle.dc_duties.specs.Tasks.{IsTask, IsUnknown};
 
 use crate::plan::{Programs, Task};
-use crate::states::{at_state, inputs, identity};
+use crate::states::{at_state, identity, inputs};
 use dc_claims::{Duty, Unknown};
 use dc_poly::{Mono, Poly};
 use dc_syntax::Side;

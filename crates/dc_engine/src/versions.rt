@@ -104,7 +104,11 @@ fn plain_systems(alloc: Global, t: &Lent) -> Result<Plain, AnalyseFault>
 }
 
 /// A version, with its system folded.
-fn fold_version(alloc: Global, system: &System, candidates: Candidates) -> Result<Version, AllocError>
+fn fold_version(
+    alloc: Global,
+    system: &System,
+    candidates: Candidates,
+) -> Result<Version, AllocError>
     requires system { IsWellFormed system.now }
     ensures folded { IfOk result (λ v. IsFolded system.now v.system) }
     ensures well_formed { IfOk result (λ v. IsWellFormed v.system) }

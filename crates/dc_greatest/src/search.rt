@@ -11,7 +11,7 @@ ghost use Rattle.dc_greatest.specs.Lent.{IsLent, family, AreShaped, EntryAsks, E
 
 use crate::family::{Family, InvFault, LocFamily};
 use crate::lent::Lent;
-use crate::lists::{all_edges, changed_edges, copy, everything, are_same};
+use crate::lists::{all_edges, are_same, changed_edges, copy, everything};
 use crate::pass::{pass_case, pass_edge};
 use dc_affine::Atom;
 use dc_lp::Tableau;

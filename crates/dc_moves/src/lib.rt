@@ -4,4 +4,4 @@
 pub mod laws;
 mod lists;
 
-pub use lists::{row_atom, copy_atoms, edge_places, first_numbers, with_guard};
+pub use lists::{copy_atoms, edge_places, first_numbers, row_atom, with_guard};
