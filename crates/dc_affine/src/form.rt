@@ -43,9 +43,8 @@ impl From<AllocError> for FormFault {
 /// The greatest size of a coefficient of a form or an atom.
 pub const MOST_COEFFICIENT: u128 = 2147483647;
 
-// Whether each coefficient is at most `MOST_COEFFICIENT` in size.
-
-pub(crate) fn in_range(form: &Poly) -> bool
+/// Whether each coefficient is at most `MOST_COEFFICIENT` in size.
+pub fn in_range(form: &Poly) -> bool
     ensures { result ≡ coefs_fit form.now.terms }
 {
     for term in form.terms() {

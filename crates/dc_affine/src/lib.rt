@@ -8,4 +8,4 @@ pub mod laws;
 
 pub use atom::Atom;
 pub use condition::dnf;
-pub use form::{FormFault, MOST_COEFFICIENT, affine, normal};
+pub use form::{FormFault, MOST_COEFFICIENT, affine, in_range, normal};

@@ -11,6 +11,7 @@ use Rattle.dc_grammar.specs.Kinds.{is}
 use Rattle.dc_grammar.specs.Grammar.{ref, seq, many, tok, opt, has, Tree, Derives, token, nothing, name, both, first, second, no_more, one_more}
 use Rattle.dc_grammar.specs.Depth.{operands, operators_with}
 use Rattle.dc_grammar.specs.Language.{language, source, names, expr, cond, stmt, block, assigned, choice}
+use Rattle.dc_grammar.proofs.AllKinds.{one_kind}
 use Rattle.dc_syntax.specs.declared.tree.Cond.{Cond}
 use Rattle.dc_syntax.specs.declared.tree.Stmt.{Stmt}
 use Rattle.dc_descent.specs.Trees.{expr_of, cond_of}
@@ -21,7 +22,6 @@ use Rattle.dc_program.specs.Limits as limits
 use Rattle.dc_parse.proofs.Counted.{is_operator, is_inside, each_both, Inside, one_if, ops, ops_both}
 use Rattle.dc_parse.proofs.Facts.{expr_facts, cond_facts}
 use Rattle.dc_parse.proofs.Folds.{at_assign, at_between, at_tick, at_assume, at_if, at_if_any, at_while, at_while_any}
-use Rattle.dc_printed.proofs.Low.{one_kind}
 
 -- the operators in a row after tokens, and the most of them after a front
 abbrev run : ℕ → List Token → ℕ

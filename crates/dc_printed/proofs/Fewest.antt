@@ -5,6 +5,7 @@ use Rattle.dc_tokens.specs.declared.token.Token.{Token}
 use Rattle.dc_tokens.proofs.Readings.{one_reading}
 use Rattle.dc_grammar.specs.Grammar.{ref, seq, many, tok, opt, Tree, Derives, token, nothing, name, both, first, second, no_more, one_more}
 use Rattle.dc_grammar.specs.Language.{language, source, names}
+use Rattle.dc_grammar.proofs.AllKinds.{one_kind}
 use Rattle.dc_syntax.specs.declared.tree.Stmt.{Stmt}
 use Rattle.dc_syntax.specs.declared.tree.Proc.{Proc}
 use Rattle.dc_syntax.specs.Text.{listed, locals_text, stmts_text, text_of}
@@ -17,7 +18,7 @@ use Rattle.dc_printed.specs.Laws.{HasTree}
 use Rattle.dc_printed.proofs.Words.{brackets_of-append, word_plain}
 use Rattle.dc_printed.proofs.Measures.{Measure, number}
 use Rattle.dc_printed.proofs.Needs.{TextSized, text_join, text_plain, plain_before, plain_after, text_round, text_brace}
-use Rattle.dc_printed.proofs.Low.{AtLeast, at_none, at_join, at_after, at_before, at_round, at_brace, one_kind}
+use Rattle.dc_printed.proofs.Low.{AtLeast, at_none, at_join, at_after, at_before, at_round, at_brace}
 use Rattle.dc_printed.proofs.StmtNeeds.{need_all, stmts_sized}
 use Rattle.dc_printed.proofs.StmtLow.{low_stmts}
 use Rattle.dc_printed.proofs.Sources.{AllNames, all_names, names-take, names-drop, printed}

@@ -9,6 +9,7 @@ use Rattle.dc_tokens.proofs.Front.{and_left, and_right}
 use Rattle.dc_grammar.specs.Kinds.{is}
 use Rattle.dc_grammar.specs.Grammar.{one, ref, seq, many, tok, opt, has, Tree, Derives, token, nothing, name, both, first, second, no_more, one_more}
 use Rattle.dc_grammar.specs.Language.{language, expr, term, unary, cond, conj, fact, stmt, block, assigned, choice}
+use Rattle.dc_grammar.proofs.AllKinds.{one_kind}
 use Rattle.dc_syntax.specs.declared.tree.Expr.{Expr}
 use Rattle.dc_syntax.specs.declared.tree.Expr.TheVariants.{Add, Sub, Mul}
 use Rattle.dc_syntax.specs.declared.tree.Cond.{Cond}
@@ -21,7 +22,6 @@ use Rattle.dc_parse.proofs.Facts.{Known}
 use Rattle.dc_printed.specs.Fits.{fits, cond_fits, stmt_fits, stmts_fit}
 use Rattle.dc_printed.proofs.Parts.{below, fits-Var, fits-Neg, fits-Add, fits-Sub, fits-Mul, fits-Cmp, fits-Not, fits-And, fits-Or}
 use Rattle.dc_printed.proofs.StmtParts.{fits-Assign, fits-AnyOf, fits-Between, fits-Tick, fits-Assume, fits-If, fits-IfAny, fits-While, fits-WhileAny}
-use Rattle.dc_printed.proofs.Low.{one_kind}
 
 module _ (n : ℕ) (q : Token → ℕ) where
   -- a token that is no name

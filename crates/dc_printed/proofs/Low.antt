@@ -7,7 +7,7 @@ use Rattle.dc_tokens.specs.declared.token.Token.{Token}
 use Rattle.dc_grammar.specs.Kinds.{is}
 use Rattle.dc_grammar.specs.Grammar.{one, ref, seq, many, tok, Tree, has, Derives, token, name, both, first, second, no_more, one_more}
 use Rattle.dc_grammar.specs.Language.{language, expr, term, unary, cond, conj, fact}
-use Rattle.dc_grammar.proofs.AllKinds.{same_kind}
+use Rattle.dc_grammar.proofs.AllKinds.{same_kind, one_kind}
 use Rattle.dc_syntax.specs.declared.tree.Expr.{Expr}
 use Rattle.dc_syntax.specs.declared.tree.Expr.TheVariants.{Add, Sub, Mul}
 use Rattle.dc_syntax.specs.declared.tree.Cond.{Cond}
@@ -22,13 +22,6 @@ use Rattle.dc_printed.proofs.Measures.{Measure}
 use Rattle.dc_printed.proofs.Needs.{Part, need_in, part, cond_part, part-Num, part-Var, part-Neg, part-Add, part-Sub, part-Mul, part-True, part-False, part-Cmp, part-Not, part-And, part-Or}
 
 -- ---- the kinds of tokens
-
-pub one_kind : (j i : TokenKind) → has is (j ∷ []) i ≡ true → i ≡ j
-one_kind j i h = sym (same_kind j i (only (is j i) h))
-  where
-    only : (z : Bool) → z || false ≡ true → z ≡ true
-    only true e = refl
-    only false e = absurd cc
 
 abbrev AllPlain : List TokenKind → Type 0
 AllPlain [] = Unit {0}

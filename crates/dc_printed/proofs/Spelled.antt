@@ -12,12 +12,12 @@ use Rattle.dc_grammar.specs.Kinds.{is}
 use Rattle.dc_grammar.specs.Grammar.{ref, seq, many, tok, opt, has, Tree, Derives, name, nothing, both, first, second, no_more, one_more}
 use Rattle.dc_grammar.specs.Grammar as g
 use Rattle.dc_grammar.specs.Language.{language, source, names}
+use Rattle.dc_grammar.proofs.AllKinds.{one_kind}
 use Rattle.dc_descent.specs.Scopes.{spelled}
 use Rattle.dc_descent.specs.Sources.{more_names, names_in, params_in, locals_in, parts_of}
 use Rattle.dc_parse.proofs.Counted.{each_front, each_rest}
 use Rattle.dc_printed.specs.Fits.{IsName, AreNames}
 use Rattle.dc_printed.proofs.Exprs.{drop_sum}
-use Rattle.dc_printed.proofs.Low.{one_kind}
 use Rattle.dc_printed.proofs.Sources.{AllNames}
 
 -- the bytes of a token are of its kind

@@ -4,6 +4,7 @@ use Rattle.dc_tokens.specs.declared.token.TokenKind.TheVariants as k
 use Rattle.dc_tokens.specs.declared.token.Token.{Token}
 use Rattle.dc_grammar.specs.Grammar.{ref, seq, many, tok, opt, Tree, Derives, token, nothing, name, both, first, second, no_more, one_more}
 use Rattle.dc_grammar.specs.Language.{language, stmt, block, assigned, choice}
+use Rattle.dc_grammar.proofs.AllKinds.{one_kind}
 use Rattle.dc_syntax.specs.declared.tree.Cond.{Cond}
 use Rattle.dc_syntax.specs.declared.tree.Stmt.{Stmt}
 use Rattle.dc_descent.specs.Trees.{expr_of, cond_of}
@@ -12,7 +13,7 @@ use Rattle.dc_printed.specs.Brackets.{bracket_of}
 use Rattle.dc_printed.proofs.Measures.{Measure}
 use Rattle.dc_printed.proofs.Needs.{cond_part}
 use Rattle.dc_printed.proofs.StmtNeeds.{need_of, need_all, need-Skip, need-Assign, need-AnyOf, need-Between, need-Tick, need-Assume, need-If, need-IfAny, need-While, need-WhileAny}
-use Rattle.dc_printed.proofs.Low.{AtLeast, less, at_none, at_join, at_token, at_after, at_before, at_round, at_brace, one_kind, low_expr, low_cond}
+use Rattle.dc_printed.proofs.Low.{AtLeast, less, at_none, at_join, at_token, at_after, at_before, at_round, at_brace, low_expr, low_cond}
 
 module _ (M : Measure) (p : Token → ℕ) where
   as_need : {us : List Token} {m n : ℕ} → m ≡ n → AtLeast M us n → AtLeast M us m

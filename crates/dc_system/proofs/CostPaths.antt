@@ -1,7 +1,7 @@
 -- The costs of a program are the costs of the paths through its system, plain or folded; and paths keep the length of a state.
-use Rattle.std.specs.Prelude.{◌≡◌, ◌↔◌, ℕ, ◌+◌, ◌-◌, ◌++◌, List, length, replicate, ℤ, pos, None}
+use Rattle.std.specs.Prelude.{◌≡◌, ◌↔◌, ℕ, ◌-◌, List, length, replicate, ℤ, pos, None}
 use Rattle.std.specs.List.{AllByRecursion}
-use Rattle.std.proofs.Common.{refl, arith, length-append}
+use Rattle.std.proofs.Common.{arith, length-append}
 use Rattle.std.proofs.lemmas.List.{length-replicate}
 use Rattle.dc_syntax.specs.declared.tree.Proc.{Proc}
 use Rattle.dc_syntax.specs.Value.{State}
@@ -13,7 +13,7 @@ use Rattle.dc_system.specs.Systems.{system_of, size_fault}
 use Rattle.dc_system.specs.Shapes.{IsEdge}
 use Rattle.dc_system.specs.Paths.{Path, here, along}
 use Rattle.dc_system.specs.Folded.{IsFolded}
-use Rattle.dc_system.specs.Laws.{Through, CostsThrough}
+use Rattle.dc_system.specs.Laws.{CostsThrough}
 use Rattle.dc_system.proofs.Lists.{each_among}
 use Rattle.dc_system.proofs.Crossings.{step_length}
 use Rattle.dc_system.proofs.Runs.{paths_runs}

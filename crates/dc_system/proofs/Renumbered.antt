@@ -1,5 +1,5 @@
 -- New numbers for the locations that are left keep the paths; and the laws of a folded system.
-use Rattle.std.specs.Prelude.{◌≡◌, ◌↔◌, ◌⊎◌, ℕ, suc, ◌-◌, ◌≤◌, ◌<◌, not, eqb, if◌then◌else◌, List, [], ◌∷◌, map, length, ℤ, pos, Some, None, refl}
+use Rattle.std.specs.Prelude.{◌≡◌, ◌↔◌, ◌⊎◌, ℕ, suc, ◌-◌, ◌≤◌, ◌<◌, not, eqb, if◌then◌else◌, List, map, length, ℤ, pos, Some, None, refl}
 use Rattle.std.specs.List.{AllByRecursion}
 use Rattle.std.proofs.Common.{sym, ◌∙◌, ap, subst, arith, inl, inr}
 use Rattle.std.proofs.lemmas.Bool.{ne_eqb}

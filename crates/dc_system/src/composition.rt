@@ -4,7 +4,6 @@ ghost use Rattle.std.specs.List.{AllByRecursion};
 ghost use Rattle.dc_syntax.specs.Value.{State};
 ghost use Rattle.dc_syntax.specs.Table.{Then};
 ghost use Rattle.dc_poly.specs.Sums.{composition_of, sum_of};
-ghost use Rattle.dc_poly.specs.NormalForm.{coefs_fit};
 ghost use Rattle.dc_system.specs.Composed.{Crosses, compose_of, form_fits, forms_at, forms_fit};
 ghost use Rattle.dc_system.specs.Composed.{after as after_edge};
 ghost use Rattle.dc_system.specs.Composed.{all_flat as flat_forms};
@@ -13,7 +12,7 @@ ghost use Rattle.dc_system.specs.Small.{AreForms, AreValues};
 
 use crate::atoms::guard_with;
 use crate::edges::Edge;
-use dc_affine::MOST_COEFFICIENT;
+use dc_affine::in_range;
 use dc_poly::Poly;
 use sqlite_items::Items;
 use std::alloc::{AllocError, Global};
@@ -26,18 +25,6 @@ fn all_flat(forms: &[Poly]) -> bool
 {
     for form in forms {
         if form.degree() > 1 {
-            return false;
-        }
-    }
-    true
-}
-
-// Whether each coefficient is at most `MOST_COEFFICIENT` in size.
-fn in_range(form: &Poly) -> bool
-    ensures { result ≡ coefs_fit form.now.terms }
-{
-    for term in form.terms() {
-        if term.coef.unsigned_abs() > MOST_COEFFICIENT {
             return false;
         }
     }
