@@ -150,7 +150,7 @@ fn text_of(alloc: Global, lines: &[&str]) -> Result<String, AllocError> {
 }
 
 // The lines with some of them, from a place on, turned into others.
-fn changed(
+fn change_lines(
     alloc: Global,
     lines: &[&str],
     from: usize,
@@ -192,7 +192,7 @@ fn texts_both_ways(rt: HostRuntime) -> Result<(), Fail> {
 }
 
 // What a table says of a line, and where it says nothing the other line.
-fn told(table: &[(usize, u64)], line: usize, other: u64) -> u64 {
+fn answer_for(table: &[(usize, u64)], line: usize, other: u64) -> u64 {
     for row in table {
         if row.0 == line {
             return row.1;
@@ -210,10 +210,10 @@ fn left_out(
     table: &[(usize, u64)],
 ) -> Result<(), Fail> {
     for k in 0..lines.len() {
-        let text = changed(alloc, lines, k, k + 1, &[])?;
+        let text = change_lines(alloc, lines, k, k + 1, &[])?;
         let line = lines[k];
         assert!(rt;
-            refused_at(alloc, text.as_str())? == told(table, k, k as u64 + 1),
+            refused_at(alloc, text.as_str())? == answer_for(table, k, k as u64 + 1),
             "without {line}"
         );
     }
@@ -221,7 +221,7 @@ fn left_out(
 }
 
 // Each line put twice: the second one is refused, unless the table says otherwise.
-fn doubled(
+fn double_lines(
     alloc: Global,
     rt: &impl Abort,
     lines: &[&str],
@@ -229,9 +229,9 @@ fn doubled(
 ) -> Result<(), Fail> {
     for k in 0..lines.len() {
         let line = lines[k];
-        let text = changed(alloc, lines, k, k + 1, &[line, line])?;
+        let text = change_lines(alloc, lines, k, k + 1, &[line, line])?;
         assert!(rt;
-            refused_at(alloc, text.as_str())? == told(table, k, k as u64 + 2),
+            refused_at(alloc, text.as_str())? == answer_for(table, k, k as u64 + 2),
             "twice {line}"
         );
     }
@@ -239,7 +239,7 @@ fn doubled(
 }
 
 // Each line put behind the next one, which is refused, unless the table says otherwise.
-fn moved(
+fn move_lines(
     alloc: Global,
     rt: &impl Abort,
     lines: &[&str],
@@ -247,9 +247,9 @@ fn moved(
 ) -> Result<(), Fail> {
     for k in 1..lines.len() {
         let line = lines[k];
-        let text = changed(alloc, lines, k - 1, k + 1, &[line, lines[k - 1]])?;
+        let text = change_lines(alloc, lines, k - 1, k + 1, &[line, lines[k - 1]])?;
         assert!(rt;
-            refused_at(alloc, text.as_str())? == told(table, k - 1, k as u64),
+            refused_at(alloc, text.as_str())? == answer_for(table, k - 1, k as u64),
             "{line} moved up"
         );
     }
@@ -284,10 +284,10 @@ fn lines_left_out(rt: HostRuntime) -> Result<(), Fail> {
 
 #[test]
 fn lines_put_twice(rt: HostRuntime) -> Result<(), Fail> {
-    doubled(rt.alloc(), &rt, &SMALL, &[])?;
-    doubled(rt.alloc(), &rt, &NUMBERED, &[])?;
-    doubled(rt.alloc(), &rt, &NEGATIVE, &[(7, 0), (9, 0)])?;
-    doubled(rt.alloc(), &rt, &NOTHING, &[])?;
+    double_lines(rt.alloc(), &rt, &SMALL, &[])?;
+    double_lines(rt.alloc(), &rt, &NUMBERED, &[])?;
+    double_lines(rt.alloc(), &rt, &NEGATIVE, &[(7, 0), (9, 0)])?;
+    double_lines(rt.alloc(), &rt, &NOTHING, &[])?;
     let table = [
         (4, 7),
         (8, 0),
@@ -298,16 +298,16 @@ fn lines_put_twice(rt: HostRuntime) -> Result<(), Fail> {
         (17, 0),
         (24, 0),
     ];
-    doubled(rt.alloc(), &rt, &TWO_CASES, &table)?;
+    double_lines(rt.alloc(), &rt, &TWO_CASES, &table)?;
     Ok(())
 }
 
 #[test]
 fn lines_moved_behind_the_next(rt: HostRuntime) -> Result<(), Fail> {
-    moved(rt.alloc(), &rt, &SMALL, &[])?;
-    moved(rt.alloc(), &rt, &NUMBERED, &[])?;
-    moved(rt.alloc(), &rt, &NEGATIVE, &[(7, 9), (9, 11)])?;
-    moved(rt.alloc(), &rt, &NOTHING, &[])?;
+    move_lines(rt.alloc(), &rt, &SMALL, &[])?;
+    move_lines(rt.alloc(), &rt, &NUMBERED, &[])?;
+    move_lines(rt.alloc(), &rt, &NEGATIVE, &[(7, 9), (9, 11)])?;
+    move_lines(rt.alloc(), &rt, &NOTHING, &[])?;
     let table = [
         (4, 0),
         (8, 0),
@@ -322,7 +322,7 @@ fn lines_moved_behind_the_next(rt: HostRuntime) -> Result<(), Fail> {
         (23, 0),
         (24, 26),
     ];
-    moved(rt.alloc(), &rt, &TWO_CASES, &table)?;
+    move_lines(rt.alloc(), &rt, &TWO_CASES, &table)?;
     Ok(())
 }
 
@@ -427,7 +427,7 @@ const CHANGES: [(usize, usize, &str, u64); 30] = [
 fn changed_lines(rt: HostRuntime) -> Result<(), Fail> {
     let alloc = rt.alloc();
     for (before, with, others, expected) in CHANGES {
-        let text = changed(alloc, &SMALL, before, with, &[others])?;
+        let text = change_lines(alloc, &SMALL, before, with, &[others])?;
         assert!(rt; refused_at(alloc, text.as_str())? == expected, "{others}");
     }
     Ok(())

@@ -4,7 +4,7 @@ use dc_frac::Frac;
 use sqlite_items::Items;
 use std::test::Fail;
 
-fn is(f: &Frac, num: i128, den: i128) -> bool {
+fn has_parts(f: &Frac, num: i128, den: i128) -> bool {
     f.num == num && f.den == den
 }
 
@@ -19,7 +19,7 @@ fn items_of_a_vector(rt: HostRuntime) -> Result<(), Fail> {
     assert!(rt; items.len() == 2);
     assert!(rt;
         items.iter().zip(&table).all(|(item, row)| item.index == row.0
-            && is(&item.value, row.1, row.2))
+            && has_parts(&item.value, row.1, row.2))
     );
     Ok(())
 }
@@ -35,6 +35,10 @@ fn vector_of_an_item(rt: HostRuntime) -> Result<(), Fail> {
     let v = dense_of(alloc, &Sparse { items }, 3)?;
     let table = [(0, 1), (-1, 2), (0, 1)];
     assert!(rt; v.len() == 3);
-    assert!(rt; v.iter().zip(&table).all(|(f, row)| is(f, row.0, row.1)));
+    assert!(rt;
+        v.iter()
+            .zip(&table)
+            .all(|(f, row)| has_parts(f, row.0, row.1))
+    );
     Ok(())
 }

@@ -34,7 +34,11 @@ struct Row {
 }
 
 /// A text with some lines turned into others.
-fn changed(alloc: Global, text: &str, changes: &[(usize, &str)]) -> Result<String, AllocError> {
+fn change_lines(
+    alloc: Global,
+    text: &str,
+    changes: &[(usize, &str)],
+) -> Result<String, AllocError> {
     let mut out = String::new(alloc);
     let mut number = 0u64;
     for line in text.lines() {
@@ -51,7 +55,7 @@ fn changed(alloc: Global, text: &str, changes: &[(usize, &str)]) -> Result<Strin
     Ok(out)
 }
 
-fn claimed(claim: Claim) -> Answer {
+fn claim_answer(claim: Claim) -> Answer {
     match claim {
         Claim::Threshold(t) => Answer::Threshold(t.floor()),
         Claim::Nothing => Answer::Nothing,
@@ -60,7 +64,7 @@ fn claimed(claim: Claim) -> Answer {
 }
 
 fn outcome(alloc: Global, row: &Row) -> Result<Answer, Fail> {
-    let text = changed(alloc, row.text, row.changes)?;
+    let text = change_lines(alloc, row.text, row.changes)?;
     judge(alloc, row.new, row.old, row.when, text.as_str())
 }
 
@@ -81,7 +85,7 @@ fn judge(alloc: Global, new: &str, old: &str, when: &str, text: &str) -> Result<
         return Err(Fail::from("text"));
     };
     match check(alloc, &new, &old, cases.as_slice(), &c) {
-        Ok(found) => Ok(claimed(found)),
+        Ok(found) => Ok(claim_answer(found)),
         Err(CheckFault::Rejected { clause, index }) => Ok(Answer::Rejected(clause, index)),
         Err(CheckFault::Past128 { clause, index }) => Ok(Answer::Past128(clause, index)),
         Err(CheckFault::TooLarge { side, what, count }) => {

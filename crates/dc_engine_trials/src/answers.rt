@@ -1,5 +1,5 @@
 //! What an analysis answers: a claim, or the first refusal.
-use crate::rows::{EMPTY, LOOP_1, LOOP_2, LOOP_I, Row, SKIP, analysed, row_of};
+use crate::rows::{EMPTY, LOOP_1, LOOP_2, LOOP_I, Row, SKIP, analyse_row, row_of};
 use dc_cert::Claim;
 use dc_entail::Place;
 use dc_frac::Frac;
@@ -20,7 +20,7 @@ enum Answer {
     Budget(Place),
 }
 
-fn claimed(claim: Claim) -> Answer {
+fn claim_answer(claim: Claim) -> Answer {
     match claim {
         Claim::Threshold(t) => Answer::Threshold(t.num, t.den),
         Claim::Nothing => Answer::Nothing,
@@ -29,8 +29,8 @@ fn claimed(claim: Claim) -> Answer {
 }
 
 fn outcome(alloc: Global, row: &Row) -> Result<Answer, Fail> {
-    match analysed(alloc, row)? {
-        Ok(certificate) => Ok(claimed(certificate.body.claim())),
+    match analyse_row(alloc, row)? {
+        Ok(certificate) => Ok(claim_answer(certificate.body.claim())),
         Err(AnalyseFault::TooLarge { side, what, count }) => {
             Ok(Answer::TooLarge(side, what, count))
         }

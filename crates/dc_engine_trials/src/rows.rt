@@ -83,7 +83,7 @@ pub struct Input {
 }
 
 /// What a row says.
-fn read(alloc: Global, row: &Row) -> Result<Input, Fail>
+fn read_row(alloc: Global, row: &Row) -> Result<Input, Fail>
     ensures { IfOk result (λ i. IsInput (input i.new i.old i.cases i.settings)) }
 {
     let Ok(new) = parse_proc(alloc, row.new.as_bytes()) else {
@@ -108,8 +108,8 @@ fn read(alloc: Global, row: &Row) -> Result<Input, Fail>
 }
 
 /// What an analysis of a row answers.
-pub fn analysed(alloc: Global, row: &Row) -> Result<Result<Certificate, AnalyseFault>, Fail> {
-    let i = read(alloc, row)?;
+pub fn analyse_row(alloc: Global, row: &Row) -> Result<Result<Certificate, AnalyseFault>, Fail> {
+    let i = read_row(alloc, row)?;
     Ok(analyse(alloc, &i.new, &i.old, i.cases.as_slice(), &i.settings))
 }
 
@@ -119,7 +119,7 @@ pub fn run_on<T: Tableau>(
     row: &Row,
     tableau: &mut T,
 ) -> Result<Result<Certificate, AnalyseFault>, Fail> {
-    let i = read(alloc, row)?;
+    let i = read_row(alloc, row)?;
     Ok(analyse_on(
         alloc,
         &i.new,

@@ -1,11 +1,11 @@
 //! Whole certificates.
-use crate::rows::{EMPTY, LOOP_1, LOOP_2, analysed, row_of};
+use crate::rows::{EMPTY, LOOP_1, LOOP_2, analyse_row, row_of};
 use dc_affine::Atom;
 use dc_cert::Body;
 use std::test::Fail;
 
 /// Whether an atom has these numbers.
-fn is(atom: &Atom, constant: i64, n: i64, i: i64) -> bool {
+fn has_numbers(atom: &Atom, constant: i64, n: i64, i: i64) -> bool {
     let coefs = atom.coefs.as_slice();
     atom.c0 == constant && coefs.len() == 2 && coefs[0] == n && coefs[1] == i
 }
@@ -14,7 +14,7 @@ fn is(atom: &Atom, constant: i64, n: i64, i: i64) -> bool {
 #[test]
 fn a_loop_has_three_atoms(rt: HostRuntime) -> Result<(), Fail> {
     let alloc = rt.alloc();
-    let found = analysed(alloc, &row_of(LOOP_2, LOOP_1, "0 <= n && n <= 100", 1, 1))?;
+    let found = analyse_row(alloc, &row_of(LOOP_2, LOOP_1, "0 <= n && n <= 100", 1, 1))?;
     let Ok(certificate) = found else {
         return Err(Fail::from("refused"));
     };
@@ -27,9 +27,9 @@ fn a_loop_has_three_atoms(rt: HostRuntime) -> Result<(), Fail> {
     let (Some(limit), Some(turns), Some(rest)) = (atoms.first(), atoms.get(1), atoms.get(2)) else {
         return Err(Fail::from("no atom"));
     };
-    assert!(rt; is(limit, 100, -1, 0));
-    assert!(rt; is(turns, 0, 0, 1));
-    assert!(rt; is(rest, 0, 1, -1));
+    assert!(rt; has_numbers(limit, 100, -1, 0));
+    assert!(rt; has_numbers(turns, 0, 0, 1));
+    assert!(rt; has_numbers(rest, 0, 1, -1));
     Ok(())
 }
 
@@ -38,7 +38,7 @@ fn a_loop_has_three_atoms(rt: HostRuntime) -> Result<(), Fail> {
 #[test]
 fn two_empty_programs_have_a_certificate(rt: HostRuntime) -> Result<(), Fail> {
     let alloc = rt.alloc();
-    let found = analysed(alloc, &row_of(EMPTY, EMPTY, "true", 0, 1))?;
+    let found = analyse_row(alloc, &row_of(EMPTY, EMPTY, "true", 0, 1))?;
     let Ok(certificate) = found else {
         return Err(Fail::from("refused"));
     };

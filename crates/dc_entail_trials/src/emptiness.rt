@@ -22,7 +22,7 @@ fn combination(hyps: &[Atom], mult: &[Frac], place: Option<usize>) -> Option<Fra
 }
 
 // That sum with the multipliers that show the list dead.
-fn combined(
+fn dead_combination(
     hyps: &[Atom],
     found: &Result<Emptiness, SolveFault>,
     place: Option<usize>,
@@ -41,8 +41,8 @@ fn two_atoms(rt: HostRuntime) -> Result<(), Fail> {
     let one = Frac::whole(1);
     let found = ask_empty(alloc, &hyps, 1, 100);
     assert!(rt; is_dead(&found, &[one, one]));
-    assert!(rt; combined(&hyps, &found, None) == Some(Frac::whole(-1)));
-    assert!(rt; combined(&hyps, &found, Some(0)) == Some(Frac::whole(0)));
+    assert!(rt; dead_combination(&hyps, &found, None) == Some(Frac::whole(-1)));
+    assert!(rt; dead_combination(&hyps, &found, Some(0)) == Some(Frac::whole(0)));
     assert!(rt; is_dead(&ask_empty(alloc, &hyps, 1, 2), &[one, one]));
     assert!(rt;
         matches!(

@@ -4,7 +4,13 @@ use dc_entail::{empty_problem, sup_problem};
 use dc_lp::Problem;
 use std::test::Fail;
 
-fn is(p: &Problem, rows: usize, columns: &[&[(usize, i128)]], b: &[i128], cost: &[i128]) -> bool {
+fn is_problem(
+    p: &Problem,
+    rows: usize,
+    columns: &[&[(usize, i128)]],
+    b: &[i128],
+    cost: &[i128],
+) -> bool {
     p.rows == rows
         && p.b.as_slice() == b
         && p.cost.as_slice() == cost
@@ -25,7 +31,7 @@ fn of_emptiness(rt: HostRuntime) -> Result<(), Fail> {
     let alloc = rt.alloc();
     let hyps = [atom(alloc, &-1, &[1], 1)?, atom(alloc, &0, &[-1], 1)?];
     let p = empty_problem(alloc, &hyps, 1)?;
-    assert!(rt; is(&p, 2, &[&[(0, 1), (1, -1)], &[(0, -1)]], &[0, -1], &[0, 0]));
+    assert!(rt; is_problem(&p, 2, &[&[(0, 1), (1, -1)], &[(0, -1)]], &[0, -1], &[0, 0]));
     Ok(())
 }
 
@@ -35,9 +41,9 @@ fn of_a_form(rt: HostRuntime) -> Result<(), Fail> {
     let alloc = rt.alloc();
     let hyps = [atom(alloc, &0, &[1], 1)?, atom(alloc, &10, &[-1], 1)?];
     let p = sup_problem(alloc, &hyps, &[1])?;
-    assert!(rt; is(&p, 1, &[&[(0, 1)], &[(0, -1)]], &[1], &[0, 10]));
+    assert!(rt; is_problem(&p, 1, &[&[(0, 1)], &[(0, -1)]], &[1], &[0, 10]));
     let hyps = [atom(alloc, &-1, &[1], 1)?, atom(alloc, &0, &[-1], 1)?];
     let p = sup_problem(alloc, &hyps, &[1])?;
-    assert!(rt; is(&p, 1, &[&[(0, 1)], &[(0, -1)]], &[1], &[-1, 0]));
+    assert!(rt; is_problem(&p, 1, &[&[(0, 1)], &[(0, -1)]], &[1], &[-1, 0]));
     Ok(())
 }

@@ -1,5 +1,5 @@
 //! Printed atoms of the greatest families, and what shows them.
-use crate::subjects::{ENOUGH, printed, read_subject, shown};
+use crate::subjects::{ENOUGH, evidence, printed_atoms, read_subject};
 use dc_affine::Atom;
 use dc_cert::{EdgeCert, Liveness};
 use dc_sparse::Cross;
@@ -251,9 +251,9 @@ fn families_of_a_table(rt: HostRuntime) -> Result<(), Fail> {
     for (source, when, pairs, table, live, exit) in FAMILIES.iter() {
         let s = read_subject(alloc, source, when, *pairs)?;
         let mut tableau = Cross::new(alloc);
-        let lists = printed(alloc, &s, &mut tableau, ENOUGH)?;
+        let lists = printed_atoms(alloc, &s, &mut tableau, ENOUGH)?;
         assert!(rt; are_lists(lists.as_slice(), table));
-        let side = shown(alloc, &s, lists, &mut tableau, ENOUGH)?;
+        let side = evidence(alloc, &s, lists, &mut tableau, ENOUGH)?;
         assert!(rt; are_lists(side.families.as_slice(), table));
         assert!(rt; are_flags(side.edges.as_slice(), live));
         assert!(rt; is_live(&side.exit_line) == *exit);

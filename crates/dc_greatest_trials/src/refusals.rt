@@ -1,6 +1,6 @@
 //! The first problem that is refused, and how many problems are solved.
 use crate::counting::Counting;
-use crate::subjects::{ENOUGH, family, printed, read_subject};
+use crate::subjects::{ENOUGH, family, printed_atoms, read_subject};
 use dc_entail::Place;
 use dc_invariant::InvFault;
 use dc_sparse::Cross;
@@ -54,7 +54,7 @@ fn pivots_pass_128_bits(rt: HostRuntime) -> Result<(), Fail> {
     );
     assert!(rt;
         matches!(
-            printed(alloc, &s, &mut Cross::new(alloc), ENOUGH),
+            printed_atoms(alloc, &s, &mut Cross::new(alloc), ENOUGH),
             Err(InvFault::Past128 {
                 place: Place::Edge {
                     side: Side::New,

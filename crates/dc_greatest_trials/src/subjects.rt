@@ -123,7 +123,7 @@ pub(crate) fn family<T: Tableau>(
 }
 
 /// The printed atoms of the greatest family.
-pub(crate) fn printed<T: Tableau>(
+pub(crate) fn printed_atoms<T: Tableau>(
     alloc: Global,
     s: &Subject,
     tableau: &mut T,
@@ -148,7 +148,7 @@ pub(crate) fn printed<T: Tableau>(
 }
 
 /// What shows printed atoms.
-pub(crate) fn shown<T: Tableau>(
+pub(crate) fn evidence<T: Tableau>(
     alloc: Global,
     s: &Subject,
     printed: Items<Items<Atom>>,

@@ -7,7 +7,7 @@ use std::alloc::Global;
 use std::process::Abort;
 use std::test::Fail;
 
-fn ended(rt: &impl Abort, alloc: Global, p: &Problem) -> Result<Outcome, EndFault> {
+fn run_to_end(rt: &impl Abort, alloc: Global, p: &Problem) -> Result<Outcome, EndFault> {
     assert!(rt; p.is_well_formed());
     assert!(rt; p.rows <= 2048);
     assert!(rt; p.columns.len() <= 8192);
@@ -34,14 +34,14 @@ fn ends(rt: HostRuntime) -> Result<(), Fail> {
     let two = problem(rt.alloc(), &[&[at(0, 3)], &[at(0, 5)]], &[1], &[7, 0])?;
     assert!(rt;
         matches!(
-            ended(&rt, rt.alloc(), &two),
+            run_to_end(&rt, rt.alloc(), &two),
             Ok(Outcome::Optimal { pivots: 2, .. })
         )
     );
     let one = problem(rt.alloc(), &[&[at(0, 1), at(1, 2)]], &[1, 2], &[1])?;
     assert!(rt;
         matches!(
-            ended(&rt, rt.alloc(), &one),
+            run_to_end(&rt, rt.alloc(), &one),
             Ok(Outcome::Optimal { pivots: 1, .. })
         )
     );
@@ -54,7 +54,7 @@ fn ends(rt: HostRuntime) -> Result<(), Fail> {
     )?;
     assert!(rt;
         matches!(
-            ended(&rt, rt.alloc(), &past),
+            run_to_end(&rt, rt.alloc(), &past),
             Err(EndFault::Past128 { pivot: 1 })
         )
     );

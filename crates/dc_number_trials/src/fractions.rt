@@ -33,7 +33,7 @@ enum Op {
     Div,
 }
 
-fn made(rt: &impl Abort, pair: (i128, i128)) -> Frac {
+fn frac_of(rt: &impl Abort, pair: (i128, i128)) -> Frac {
     assert!(rt; pair.0 != i128::MIN && pair.1 != i128::MIN && pair.1 != 0);
     Frac::new(pair.0, pair.1)
 }
@@ -44,8 +44,8 @@ fn answer(
     left: (i128, i128),
     right: (i128, i128),
 ) -> Option<(i128, i128)> {
-    let x = made(rt, left);
-    let y = made(rt, right);
+    let x = frac_of(rt, left);
+    let y = frac_of(rt, right);
     let z = match op {
         Op::Add => x.add(y)?,
         Op::Sub => x.sub(y)?,
@@ -180,8 +180,8 @@ fn orders(rt: HostRuntime) {
         ((MAX, WORD), (HALF, 1), Ordering::Less),
         ((0, 1), (1, MAX), Ordering::Less),
     ] {
-        let x = made(&rt, left);
-        let y = made(&rt, right);
+        let x = frac_of(&rt, left);
+        let y = frac_of(&rt, right);
         assert!(rt; x.cmp(&y) == expected);
         assert!(rt; y.cmp(&x) == expected.reverse());
     }
@@ -207,7 +207,7 @@ fn floors_signs_and_lowest_terms(rt: HostRuntime) {
         ((WORD, -3), (-WORD, 3), -6148914691236517206),
         ((HALF_LESS, HALF), (HALF_LESS, HALF), 0),
     ] {
-        let x = made(&rt, pair);
+        let x = frac_of(&rt, pair);
         assert!(rt; (x.num, x.den) == lowest);
         assert!(rt; x.floor() == floor);
         assert!(rt; x.is_zero() == (lowest.0 == 0));
@@ -216,7 +216,7 @@ fn floors_signs_and_lowest_terms(rt: HostRuntime) {
         let y = x.neg();
         assert!(rt; y.den == lowest.1 && y.neg() == x);
     }
-    assert!(rt; Frac::whole(-7) == made(&rt, (14, -2)));
+    assert!(rt; Frac::whole(-7) == frac_of(&rt, (14, -2)));
 }
 
 #[test]

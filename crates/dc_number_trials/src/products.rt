@@ -2,7 +2,7 @@
 ghost use Rattle.std.specs.Prelude.{◌≤◌, length, unsigned_abs, IfOk};
 ghost use Rattle.dc_affine.specs.Atoms.{AllFit, IsAtom};
 
-use crate::tables::is;
+use crate::tables::has_terms;
 use dc_affine::Atom;
 use dc_handelman::{product_count, products};
 use dc_poly::Poly;
@@ -24,7 +24,7 @@ fn atom(alloc: Global, c0: &i64, coefs: &[i64], places: usize) -> Result<Atom, A
 }
 
 fn are(list: &[Poly], table: &[&[(i128, &[u8])]]) -> bool {
-    list.len() == table.len() && list.iter().zip(table).all(|(p, row)| is(p, row))
+    list.len() == table.len() && list.iter().zip(table).all(|(p, row)| has_terms(p, row))
 }
 
 #[test]

@@ -8,7 +8,12 @@ use std::alloc::Global;
 use std::process::Abort;
 use std::test::Fail;
 
-fn solved(rt: &impl Abort, alloc: Global, p: &Problem, budget: u64) -> Result<Outcome, SolveFault> {
+fn solve_problem(
+    rt: &impl Abort,
+    alloc: Global,
+    p: &Problem,
+    budget: u64,
+) -> Result<Outcome, SolveFault> {
     assert!(rt; p.is_well_formed());
     let mut tableau = Dense::new(alloc);
     solve(alloc, p, &mut tableau, budget)
@@ -65,12 +70,12 @@ fn budgets(rt: HostRuntime) -> Result<(), Fail> {
     let p = problem(rt.alloc(), &[&[at(0, 3)], &[at(0, 5)]], &[1], &[7, 0])?;
     let [zero, fifth] = [Frac::whole(0), Frac::new(1, 5)];
     for budget in [2, 3, 1_000_000] {
-        let found = solved(&rt, rt.alloc(), &p, budget);
+        let found = solve_problem(&rt, rt.alloc(), &p, budget);
         assert!(rt; is_optimal(&found, &[zero, fifth], &[zero], zero, 2));
     }
     for budget in [0, 1] {
         assert!(rt;
-            matches!(solved(&rt, rt.alloc(), &p, budget), Err(SolveFault::Budget { pivots }) if pivots == budget)
+            matches!(solve_problem(&rt, rt.alloc(), &p, budget), Err(SolveFault::Budget { pivots }) if pivots == budget)
         );
     }
     Ok(())
@@ -89,19 +94,19 @@ fn too_wide(rt: HostRuntime) -> Result<(), Fail> {
     )?;
     assert!(rt;
         matches!(
-            solved(&rt, rt.alloc(), &p, 100),
+            solve_problem(&rt, rt.alloc(), &p, 100),
             Err(SolveFault::Past128 { pivot: 1 })
         )
     );
     assert!(rt;
         matches!(
-            solved(&rt, rt.alloc(), &p, 1),
+            solve_problem(&rt, rt.alloc(), &p, 1),
             Err(SolveFault::Past128 { pivot: 1 })
         )
     );
     assert!(rt;
         matches!(
-            solved(&rt, rt.alloc(), &p, 0),
+            solve_problem(&rt, rt.alloc(), &p, 0),
             Err(SolveFault::Budget { pivots: 0 })
         )
     );
@@ -115,14 +120,14 @@ fn without_an_optimum(rt: HostRuntime) -> Result<(), Fail> {
     let [zero, one, less] = [Frac::whole(0), Frac::whole(1), Frac::whole(-1)];
     assert!(rt;
         is_unbounded(
-            &solved(&rt, rt.alloc(), &falling, 10),
+            &solve_problem(&rt, rt.alloc(), &falling, 10),
             &[zero, zero],
             &[one, one],
             1
         )
     );
     let empty = problem(rt.alloc(), &[&[at(0, 1)]], &[-1], &[0])?;
-    assert!(rt; is_infeasible(&solved(&rt, rt.alloc(), &empty, 10), &[less], 0));
+    assert!(rt; is_infeasible(&solve_problem(&rt, rt.alloc(), &empty, 10), &[less], 0));
     Ok(())
 }
 
@@ -139,7 +144,7 @@ fn redundant_equations(rt: HostRuntime) -> Result<(), Fail> {
     let twice = problem(rt.alloc(), &[&[at(0, 1), at(1, 2)]], &[1, 2], &[1])?;
     assert!(rt;
         is_optimal(
-            &solved(&rt, rt.alloc(), &twice, 10),
+            &solve_problem(&rt, rt.alloc(), &twice, 10),
             &[one],
             &[one, zero],
             one,
@@ -149,7 +154,7 @@ fn redundant_equations(rt: HostRuntime) -> Result<(), Fail> {
     let driven = problem(rt.alloc(), &[&[at(0, -1)]], &[0], &[5])?;
     assert!(rt;
         is_optimal(
-            &solved(&rt, rt.alloc(), &driven, 10),
+            &solve_problem(&rt, rt.alloc(), &driven, 10),
             &[zero],
             &[less],
             zero,
@@ -158,7 +163,7 @@ fn redundant_equations(rt: HostRuntime) -> Result<(), Fail> {
     );
     assert!(rt;
         matches!(
-            solved(&rt, rt.alloc(), &driven, 0),
+            solve_problem(&rt, rt.alloc(), &driven, 0),
             Err(SolveFault::Budget { pivots: 0 })
         )
     );
@@ -170,7 +175,7 @@ fn redundant_equations(rt: HostRuntime) -> Result<(), Fail> {
     let sums = problem(rt.alloc(), &columns, &[2, 1, 3], &[1, 2, 0])?;
     assert!(rt;
         is_optimal(
-            &solved(&rt, rt.alloc(), &sums, 10),
+            &solve_problem(&rt, rt.alloc(), &sums, 10),
             &[two, zero, one],
             &[one, zero, zero],
             two,
@@ -203,7 +208,7 @@ fn circles(rt: HostRuntime) -> Result<(), Fail> {
     let x = [Frac::new(3, 4), zero, zero, one, zero, one, zero];
     assert!(rt;
         is_optimal(
-            &solved(&rt, rt.alloc(), &p, 100),
+            &solve_problem(&rt, rt.alloc(), &p, 100),
             &x,
             &[zero, less, least],
             least,

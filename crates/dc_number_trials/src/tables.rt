@@ -28,7 +28,7 @@ pub(crate) fn problem(
 }
 
 /// Whether the terms are these coefficients and exponents, in this order.
-pub(crate) fn is(p: &Poly, table: &[(i128, &[u8])]) -> bool {
+pub(crate) fn has_terms(p: &Poly, table: &[(i128, &[u8])]) -> bool {
     let terms = p.terms();
     terms.len() == table.len()
         && terms.iter().zip(table).all(|(term, row)| term.coef == row.0

@@ -1,5 +1,5 @@
 //! Monomials of a template, and one at an updated state.
-use crate::tables::is;
+use crate::tables::has_terms;
 use dc_poly::{Mono, Poly};
 use dc_template::{monomials, template_column, unknowns};
 use std::alloc::Global;
@@ -46,7 +46,7 @@ fn a_column(rt: HostRuntime) -> Result<(), Fail> {
     let twice = i.add(alloc, &i)?;
     let mono = Mono::from_slice(alloc, &[1, 1])?;
     let column = template_column(alloc, &mono, &[up, twice])?;
-    assert!(rt; is(&column, &[(2, &[0, 1]), (2, &[1, 1])]));
+    assert!(rt; has_terms(&column, &[(2, &[0, 1]), (2, &[1, 1])]));
     assert!(rt; column.places() == 2);
     Ok(())
 }
@@ -55,7 +55,7 @@ fn a_column(rt: HostRuntime) -> Result<(), Fail> {
 fn without_updates(rt: HostRuntime) -> Result<(), Fail> {
     let alloc = rt.alloc();
     let column = template_column(alloc, &Mono::one(alloc, 0)?, &[])?;
-    assert!(rt; is(&column, &[(1, &[0])]));
+    assert!(rt; has_terms(&column, &[(1, &[0])]));
     assert!(rt; column.places() == 1);
     Ok(())
 }

@@ -76,7 +76,7 @@ fn poly(rt: &impl Abort, alloc: Global, rows: &[(i128, u8, u8)]) -> Result<Poly,
 }
 
 // Whether the terms are these coefficients and exponents, in this order.
-fn is(p: &Poly, table: &[(i128, &[u8])]) -> bool {
+fn has_terms(p: &Poly, table: &[(i128, &[u8])]) -> bool {
     let terms = p.terms();
     terms.len() == table.len()
         && terms.iter().zip(table).all(|(term, row)| term.coef == row.0
@@ -89,15 +89,15 @@ fn results_written_out_by_hand(rt: HostRuntime) -> Result<(), Fail> {
     let up = poly(&rt, alloc, &[(1, 0, 0), (1, 1, 0)])?;
     let down = poly(&rt, alloc, &[(-1, 0, 0), (1, 1, 0)])?;
     assert!(rt;
-        is(
+        has_terms(
             &product(&rt, alloc, &up, &down)?,
             &[(-1, &[0, 0]), (1, &[2, 0])]
         )
     );
-    assert!(rt; is(&down.neg(alloc)?, &[(1, &[0, 0]), (-1, &[1, 0])]));
+    assert!(rt; has_terms(&down.neg(alloc)?, &[(1, &[0, 0]), (-1, &[1, 0])]));
     let p = poly(&rt, alloc, &[(2, 0, 0), (1, 1, 1)])?;
     assert!(rt;
-        is(
+        has_terms(
             &at_two(&rt, alloc, &p, up, down)?,
             &[(1, &[0, 0]), (1, &[2, 0])]
         )
@@ -110,7 +110,7 @@ fn a_square(rt: HostRuntime) -> Result<(), Fail> {
     let alloc = rt.alloc();
     let both = poly(&rt, alloc, &[(1, 1, 0), (1, 0, 1)])?;
     let square = product(&rt, alloc, &both, &both)?;
-    assert!(rt; is(&square, &[(1, &[2, 0]), (2, &[1, 1]), (1, &[0, 2])]));
+    assert!(rt; has_terms(&square, &[(1, &[2, 0]), (2, &[1, 1]), (1, &[0, 2])]));
     assert!(rt; square.degree() == 2);
     assert!(rt; square.coef(&Mono::from_slice(alloc, &[1, 1])?) == 2);
     assert!(rt; square.coef(&Mono::from_slice(alloc, &[1, 0])?) == 0);
@@ -137,7 +137,7 @@ fn graded_order(rt: HostRuntime) -> Result<(), Fail> {
         (5, &[1, 1]),
         (1, &[0, 2]),
     ];
-    assert!(rt; is(&p, &sorted));
+    assert!(rt; has_terms(&p, &sorted));
     Ok(())
 }
 
@@ -145,11 +145,11 @@ fn graded_order(rt: HostRuntime) -> Result<(), Fail> {
 fn zero_results(rt: HostRuntime) -> Result<(), Fail> {
     let alloc = rt.alloc();
     let zero = poly(&rt, alloc, &[(1, 1, 0), (-1, 1, 0)])?;
-    assert!(rt; is(&zero, &[]));
+    assert!(rt; has_terms(&zero, &[]));
     assert!(rt; zero.degree() == 0);
     let difference = poly(&rt, alloc, &[(1, 2, 0), (-1, 1, 1)])?;
     let n = Poly::variable(alloc, 0, 2)?;
-    assert!(rt; is(&at_two(&rt, alloc, &difference, n.copy(alloc)?, n)?, &[]));
+    assert!(rt; has_terms(&at_two(&rt, alloc, &difference, n.copy(alloc)?, n)?, &[]));
     Ok(())
 }
 
@@ -158,7 +158,7 @@ fn without_values(rt: HostRuntime) -> Result<(), Fail> {
     let alloc = rt.alloc();
     let seven = Poly::constant(alloc, 7, 0)?;
     let result = seven.subst(alloc, &[])?;
-    assert!(rt; is(&result, &[(7, &[])]));
+    assert!(rt; has_terms(&result, &[(7, &[])]));
     assert!(rt; result.places() == 0);
     Ok(())
 }
@@ -171,7 +171,7 @@ fn the_largest_sizes(rt: HostRuntime) -> Result<(), Fail> {
     for _k in 0..12 {
         power = times_variable(&rt, alloc, &power, &last)?;
     }
-    assert!(rt; is(&power, &[(-i128::MAX, &[0, 0, 0, 0, 0, 0, 0, 0, 0, 0, 12])]));
+    assert!(rt; has_terms(&power, &[(-i128::MAX, &[0, 0, 0, 0, 0, 0, 0, 0, 0, 0, 12])]));
     assert!(rt; power.degree() == 12);
     Ok(())
 }

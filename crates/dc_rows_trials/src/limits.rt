@@ -12,7 +12,7 @@ enum Outcome {
     TooLarge(Count, u64),
 }
 
-fn judged(alloc: Global, source: &str) -> Result<Outcome, Fail> {
+fn judge(alloc: Global, source: &str) -> Result<Outcome, Fail> {
     match ask(alloc, source, "true", false)? {
         Ok(found) => Ok(Outcome::Found(found.rows.len(), found.bounds.len())),
         Err(RowFault::TooLarge { what, count }) => Ok(Outcome::TooLarge(what, count)),
@@ -66,10 +66,10 @@ fn rising(alloc: Global, comparisons: u32) -> Result<String, AllocError> {
 fn at_most_256_bounds(rt: HostRuntime) -> Result<(), Fail> {
     let alloc = rt.alloc();
     let source = tens(alloc, 42)?;
-    assert_eq!(rt; judged(alloc, source.as_str())?, Outcome::Found(0, 255));
+    assert_eq!(rt; judge(alloc, source.as_str())?, Outcome::Found(0, 255));
     let source = tens(alloc, 43)?;
     assert_eq!(rt;
-        judged(alloc, source.as_str())?,
+        judge(alloc, source.as_str())?,
         Outcome::TooLarge(Count::Bounds, 261)
     );
     Ok(())
@@ -85,7 +85,7 @@ fn at_most_1024_rows(rt: HostRuntime) -> Result<(), Fail> {
         (1100, Outcome::TooLarge(Count::Rows, 1106)),
     ] {
         let source = turns(alloc, comparisons)?;
-        assert_eq!(rt; judged(alloc, source.as_str())?, expected);
+        assert_eq!(rt; judge(alloc, source.as_str())?, expected);
     }
     Ok(())
 }
@@ -100,7 +100,7 @@ fn rows_are_counted_first(rt: HostRuntime) -> Result<(), Fail> {
         (1021, Outcome::TooLarge(Count::Rows, 1025)),
     ] {
         let source = rising(alloc, comparisons)?;
-        assert_eq!(rt; judged(alloc, source.as_str())?, expected);
+        assert_eq!(rt; judge(alloc, source.as_str())?, expected);
     }
     Ok(())
 }

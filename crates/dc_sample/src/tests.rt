@@ -30,7 +30,7 @@ fn source(alloc: Global, digits: &str) -> Result<Vec<u8>, AllocError> {
     Ok(text)
 }
 
-fn made(rt: &impl Abort, alloc: Global, seed: u32, count: u32) -> Result<Pair, Fail> {
+fn make_pair(rt: &impl Abort, alloc: Global, seed: u32, count: u32) -> Result<Pair, Fail> {
     assert!(rt; seed <= 2147483647);
     assert!(rt; 1 <= count && count <= 8);
     Ok(sample_pair(alloc, seed, count)?)
@@ -40,7 +40,7 @@ fn made(rt: &impl Abort, alloc: Global, seed: u32, count: u32) -> Result<Pair, F
 fn pairs_of_a_table_of_seeds(rt: HostRuntime) -> Result<(), Fail> {
     let alloc = rt.alloc();
     for (seed, count, new, old, bytes) in PAIRS.iter() {
-        let pair = made(&rt, alloc, *seed, *count)?;
+        let pair = make_pair(&rt, alloc, *seed, *count)?;
         assert!(rt; pair.new_text == source(alloc, new)?);
         assert!(rt; pair.old_text == source(alloc, old)?);
         assert!(rt; pair.new_text.len() == *bytes);
@@ -51,7 +51,7 @@ fn pairs_of_a_table_of_seeds(rt: HostRuntime) -> Result<(), Fail> {
 
 #[test]
 fn a_whole_text(rt: HostRuntime) -> Result<(), Fail> {
-    let pair = made(&rt, rt.alloc(), 0, 1)?;
+    let pair = make_pair(&rt, rt.alloc(), 0, 1)?;
     assert!(rt; pair.old_text.as_slice() == SHORT);
     Ok(())
 }

@@ -8,7 +8,7 @@ use std::alloc::Global;
 use std::process::Abort;
 use std::test::Fail;
 
-fn ended(rt: &impl Abort, alloc: Global, p: &Problem) -> Result<Outcome, EndFault> {
+fn run_to_end(rt: &impl Abort, alloc: Global, p: &Problem) -> Result<Outcome, EndFault> {
     assert!(rt; p.is_well_formed());
     assert!(rt; p.rows <= 2048);
     assert!(rt; p.columns.len() <= 8192);
@@ -23,19 +23,19 @@ fn ends(rt: HostRuntime) -> Result<(), Fail> {
     let alloc = rt.alloc();
     assert!(rt;
         matches!(
-            ended(&rt, alloc, &small(alloc)?),
+            run_to_end(&rt, alloc, &small(alloc)?),
             Ok(Outcome::Optimal { pivots: 2, .. })
         )
     );
     assert!(rt;
         matches!(
-            ended(&rt, alloc, &twice(alloc)?),
+            run_to_end(&rt, alloc, &twice(alloc)?),
             Ok(Outcome::Optimal { pivots: 1, .. })
         )
     );
     assert!(rt;
         matches!(
-            ended(&rt, alloc, &wide(alloc)?),
+            run_to_end(&rt, alloc, &wide(alloc)?),
             Err(EndFault::Past128 { pivot: 1 })
         )
     );

@@ -77,7 +77,7 @@ fn right_sides(rt: HostRuntime) -> Result<(), Fail> {
 }
 
 // (1 - v) * x0 - x2 = 0 and x0 + 3 * x1 + x2 = 1 with costs 0, 1 and 0: drive-out makes a pivot at 1 - v.
-fn driven(rt: &impl Abort, alloc: Global, v: i128) -> Result<(), Fail> {
+fn drive_out(rt: &impl Abort, alloc: Global, v: i128) -> Result<(), Fail> {
     assert!(rt; v > 1);
     let columns: [&[Entry]; 3] = [
         &[at(0, 1 - v), at(1, 1)],
@@ -94,7 +94,7 @@ fn driven(rt: &impl Abort, alloc: Global, v: i128) -> Result<(), Fail> {
 #[test]
 fn negative_pivots(rt: HostRuntime) -> Result<(), Fail> {
     for v in &EDGES {
-        driven(&rt, rt.alloc(), *v)?;
+        drive_out(&rt, rt.alloc(), *v)?;
     }
     Ok(())
 }

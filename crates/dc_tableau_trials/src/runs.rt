@@ -18,7 +18,7 @@ pub(crate) enum End<'a> {
     Spent(u64),
 }
 
-fn is(found: &Result<Outcome, SolveFault>, end: &End) -> bool {
+fn is_end(found: &Result<Outcome, SolveFault>, end: &End) -> bool {
     match (found, end) {
         (
             Ok(
@@ -48,7 +48,7 @@ pub(crate) fn ends(rt: &impl Abort, alloc: Global, p: &Problem, budget: u64, end
     assert!(rt; p.is_well_formed());
     let dense = solve(alloc, p, &mut Dense::new(alloc), budget);
     let cross = solve(alloc, p, &mut Cross::new(alloc), budget);
-    is(&dense, end) && is(&cross, end)
+    is_end(&dense, end) && is_end(&cross, end)
 }
 
 #[test]

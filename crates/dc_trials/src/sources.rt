@@ -27,7 +27,7 @@ fn is_one_atom(case: Option<&Items<Atom>>, c0: i64, coefs: &[i64]) -> bool {
 }
 
 /// A text with a part repeated in its middle.
-fn repeated(
+fn repeat_part(
     alloc: Global,
     front: &[u8],
     part: &[u8],
@@ -251,39 +251,39 @@ fn tells_what_is_wrong_first(rt: HostRuntime) {
 #[test]
 fn keeps_the_limits(rt: HostRuntime) -> Result<(), Fail> {
     let alloc = rt.alloc();
-    let filled = repeated(alloc, b"proc f(n) { }", b" ", 65523, b"")?;
+    let filled = repeat_part(alloc, b"proc f(n) { }", b" ", 65523, b"")?;
     assert!(rt; refusal(alloc, filled.as_slice()).is_none());
-    let longer = repeated(alloc, b"proc f(n) { }", b" ", 65524, b"")?;
+    let longer = repeat_part(alloc, b"proc f(n) { }", b" ", 65524, b"")?;
     assert!(rt; refusal(alloc, longer.as_slice()) == Some((1, 1, Kind::TooLong)));
-    let brackets = repeated(alloc, b"proc f(n) { tick ", b"(", 63, b"n")?;
-    let closed = repeated(alloc, brackets.as_slice(), b")", 63, b"; }")?;
+    let brackets = repeat_part(alloc, b"proc f(n) { tick ", b"(", 63, b"n")?;
+    let closed = repeat_part(alloc, brackets.as_slice(), b")", 63, b"; }")?;
     assert!(rt; refusal(alloc, closed.as_slice()).is_none());
-    let deeper = repeated(alloc, b"proc f(n) { tick ", b"(", 64, b"n")?;
+    let deeper = repeat_part(alloc, b"proc f(n) { tick ", b"(", 64, b"n")?;
     assert!(rt; refusal(alloc, deeper.as_slice()) == Some((1, 81, Kind::TooDeep)));
-    let sum = repeated(alloc, b"proc f(n) { tick 1", b"+1", 64, b"; }")?;
+    let sum = repeat_part(alloc, b"proc f(n) { tick 1", b"+1", 64, b"; }")?;
     assert!(rt; refusal(alloc, sum.as_slice()).is_none());
-    let longer = repeated(alloc, b"proc f(n) { tick 1", b"+1", 65, b"; }")?;
+    let longer = repeat_part(alloc, b"proc f(n) { tick 1", b"+1", 65, b"; }")?;
     assert!(rt; refusal(alloc, longer.as_slice()) == Some((1, 147, Kind::TooDeep)));
-    let wrong = repeated(alloc, b"proc f() { tick 1", b"+1", 63, b"++ 1; }")?;
+    let wrong = repeat_part(alloc, b"proc f() { tick 1", b"+1", 63, b"++ 1; }")?;
     assert!(rt; refusal(alloc, wrong.as_slice()) == Some((1, 145, Kind::Unexpected)));
-    let signs = repeated(alloc, b"proc f() { tick ", b"-", 65, b"1; }")?;
+    let signs = repeat_part(alloc, b"proc f() { tick ", b"-", 65, b"1; }")?;
     assert!(rt; refusal(alloc, signs.as_slice()) == Some((1, 81, Kind::TooDeep)));
-    let bangs = repeated(alloc, b"proc f() { if (", b"!", 65, b"true) { } }")?;
+    let bangs = repeat_part(alloc, b"proc f() { if (", b"!", 65, b"true) { } }")?;
     assert!(rt; refusal(alloc, bangs.as_slice()) == Some((1, 80, Kind::TooDeep)));
-    let squares = repeated(alloc, b"proc f() { if (", b"[", 63, b"true")?;
+    let squares = repeat_part(alloc, b"proc f() { if (", b"[", 63, b"true")?;
     assert!(rt; refusal(alloc, squares.as_slice()) == Some((1, 78, Kind::TooDeep)));
-    let low = repeated(alloc, b"proc f(n) { n = any(0", b"+1", 64, b", 0")?;
-    let range = repeated(alloc, low.as_slice(), b"+1", 64, b"); }")?;
+    let low = repeat_part(alloc, b"proc f(n) { n = any(0", b"+1", 64, b", 0")?;
+    let range = repeat_part(alloc, low.as_slice(), b"+1", 64, b"); }")?;
     assert!(rt; refusal(alloc, range.as_slice()).is_none());
-    let seven = repeated(alloc, b"", b" || n == 0", 6, b"); ")?;
-    let wide = repeated(
+    let seven = repeat_part(alloc, b"", b" || n == 0", 6, b"); ")?;
+    let wide = repeat_part(
         alloc,
         b"proc f(n) { assume (n == 0",
         seven.as_slice(),
         1,
         b"if (n == 0",
     )?;
-    let wide = repeated(alloc, wide.as_slice(), b" || n == 0", 6, b") { } }")?;
+    let wide = repeat_part(alloc, wide.as_slice(), b" || n == 0", 6, b") { } }")?;
     assert!(rt; refusal(alloc, wide.as_slice()) == Some((1, 90, Kind::ConditionTooWide)));
     Ok(())
 }
@@ -332,10 +332,10 @@ fn reads_conditions(rt: HostRuntime) -> Result<(), Fail> {
     assert_eq!(rt; cases.len(), 2);
     assert!(rt; is_one_atom(cases.get(0), 2, &[-1, 0]));
     assert!(rt; is_one_atom(cases.get(1), -4, &[1, 0]));
-    let most = repeated(alloc, b"n < 0", b"||n < 0", 63, b"")?;
+    let most = repeat_part(alloc, b"n < 0", b"||n < 0", 63, b"")?;
     assert_eq!(rt; parse_when(alloc, most.as_slice(), &p)?.len(), 64);
-    let more = repeated(alloc, b"n < 0", b"||n < 0", 64, b"")?;
-    let deeper = repeated(alloc, b"n < 0", b"||n < 0", 65, b"")?;
+    let more = repeat_part(alloc, b"n < 0", b"||n < 0", 64, b"")?;
+    let deeper = repeat_part(alloc, b"n < 0", b"||n < 0", 65, b"")?;
     let table: [(&[u8], u32, u32, Kind); 13] = [
         (more.as_slice(), 1, 1, Kind::ConditionTooWide),
         (deeper.as_slice(), 1, 454, Kind::TooDeep),

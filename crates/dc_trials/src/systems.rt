@@ -183,7 +183,7 @@ fn builds_and_folds(rt: HostRuntime) -> Result<(), Fail> {
 }
 
 // A source with a part of its body repeated.
-fn repeated(alloc: Global, part: &str, times: usize, end: &str) -> Result<String, AllocError> {
+fn repeat_part(alloc: Global, part: &str, times: usize, end: &str) -> Result<String, AllocError> {
     let mut text = String::from_str(alloc, "proc f(n) { ")?;
     for _turn in 0..times {
         text.push_str(part)?;
@@ -224,7 +224,7 @@ fn keeps_the_limits(rt: HostRuntime) -> Result<(), Fail> {
         (wide.as_str(), 8, "", (None, 512)),
         (wide.as_str(), 8, "skip;", (Some(Count::Edges), 513)),
     ] {
-        let source = repeated(alloc, part, times, end)?;
+        let source = repeat_part(alloc, part, times, end)?;
         assert!(rt;
             size(alloc, source.as_str())? == expected,
             "{times} times {part}{end}"
@@ -248,7 +248,7 @@ fn folds_guards_of_at_most_256_atoms(rt: HostRuntime) -> Result<(), Fail> {
     let alloc = rt.alloc();
     for (equations, locations) in [(64, 2), (65, 3)] {
         let part = narrow(alloc, equations)?;
-        let source = repeated(alloc, part.as_str(), 2, "")?;
+        let source = repeat_part(alloc, part.as_str(), 2, "")?;
         let p = parse_proc(alloc, source.as_bytes())?;
         let folded = fold(alloc, &build(alloc, &p)?)?;
         assert_eq!(rt; folded.locs, locations);

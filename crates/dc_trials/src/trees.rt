@@ -92,7 +92,7 @@ fn cond(alloc: Global, postfix: &str) -> Result<Cond, AllocError> {
 }
 
 // The printed procedure with this body.
-fn printed(alloc: Global, body: Items<Stmt>) -> Result<Vec<u8>, AllocError> {
+fn print_body(alloc: Global, body: Items<Stmt>) -> Result<Vec<u8>, AllocError> {
     let mut p = procedure(alloc, "n m", "x")?;
     p.names.insert(String::from_str(alloc, "y")?)?;
     p.body = body;
@@ -119,7 +119,7 @@ fn expressions_have_the_fewest_brackets(rt: HostRuntime) -> Result<(), AllocErro
         let mut body = Items::new(alloc);
         body.push(Stmt::Tick(expr(alloc, postfix)?))?;
         let expected = format!(in alloc; "proc f(n, m) {{\nvar x, y;\ntick {text};\n}}\n")?;
-        let printed = printed(alloc, body)?;
+        let printed = print_body(alloc, body)?;
         assert!(rt; printed.as_slice() == expected.as_bytes(), "at {postfix}");
     }
     Ok(())
@@ -142,7 +142,7 @@ fn conditions_have_the_fewest_brackets(rt: HostRuntime) -> Result<(), AllocError
         let mut body = Items::new(alloc);
         body.push(Stmt::Assume(cond(alloc, postfix)?))?;
         let expected = format!(in alloc; "proc f(n, m) {{\nvar x, y;\nassume ({text});\n}}\n")?;
-        let printed = printed(alloc, body)?;
+        let printed = print_body(alloc, body)?;
         assert!(rt; printed.as_slice() == expected.as_bytes(), "at {postfix}");
     }
     Ok(())
@@ -175,7 +175,7 @@ fn each_statement_has_its_lines(rt: HostRuntime) -> Result<(), AllocError> {
     ))?;
     let expected =
         "proc f(n, m) {\nvar x, y;\nskip;\nx = n + 1;\ny = any;\ny = any(n, x);\nif (n < x) {\nskip;\n} else {\n}\nif (*) {\n} else {\nskip;\n}\nwhile (n != 0) {\nwhile (*) {\n}\n}\n}\n";
-    let printed = printed(alloc, body)?;
+    let printed = print_body(alloc, body)?;
     assert!(rt; printed.as_slice() == expected.as_bytes());
     Ok(())
 }

@@ -8,7 +8,7 @@ use Rattle.dc_greatest.specs.Kept.{stands_for}
 use Rattle.dc_invariant.specs.Answers.{TellsPrinted}
 use Rattle.dc_invariant.proofs.Whole.{printed_are_atoms}
 use Rattle.dc_greatest_trials.specs.Subjects.{CanBeShown}
-use Rattle.dc_greatest_trials.proofs.subjects.printed.Goals as goal
+use Rattle.dc_greatest_trials.proofs.subjects.printed_atoms.Goals as goal
 
 pub prune-requires-clause-honest : goal.prune-requires-clause-honest
 prune-requires-clause-honest g c = (let t = c.in-Ok.ensures in greatest_is_honest (graph_of c.args.s.now.system) c.args.s.now.cases c.args.s.now.candidates (stands_for c.args.s.now.system.vars c.args.s.now.candidates c.in-Ok.f.at) c.requires.kind t.greatest)
