@@ -13,6 +13,7 @@ pub mod Grows
 pub mod RowWalks
 pub mod Quotients
 pub mod Wholes
+mod WordQuotients
 pub mod Scaling
 mod Smalls
 pub mod HeldEntries

@@ -13,7 +13,7 @@ ghost use Rattle.dc_sparse.specs.Scales.{IsWhole, AreSmall};
 ghost use Rattle.dc_sparse.specs.Held.{nodes_of, node_count, height_of, width_of, rows_of};
 
 use crate::web::Web;
-use crate::whole::is_small;
+use crate::whole::{is_small, quotient};
 use dc_frac::Frac;
 use dc_start::step;
 
@@ -97,7 +97,7 @@ impl Web {
         let mut next = self.right_of(row, None);
         while let Some(node) = next {
             let at = self.nodes[node].col();
-            match self.nodes[node].value.div(by) {
+            match quotient(self.nodes[node].value, by) {
                 Some(quotient) => self.set(node, quotient),
                 None => return false,
             }

@@ -1,11 +1,12 @@
 //! Small whole numbers, and rows that are to hold them.
 #![tactic(auto)]
 
-ghost use Rattle.std.specs.Prelude.{◌≡◌, ℕ, ◌<◌, pos, ◌≤ℤ◌, ◌<ℤ◌, IsTrue, IfSome, true, false};
+ghost use Rattle.std.specs.Prelude.{◌≡◌, ℕ, ◌<◌, ◌^◌, pos, ◌≤ℤ◌, ◌<ℤ◌, unsigned_abs, IsTrue, IfSome, true, false};
 ghost use Rattle.dc_math.specs.Rational.{of_ℤ, ◌*ℚ◌};
 ghost use Rattle.dc_math.specs.Tests.{is_zero};
-ghost use Rattle.dc_frac.specs.Fits.{product_fits};
-ghost use Rattle.dc_frac.specs.Value.{value};
+ghost use Rattle.dc_math.specs.Inverse.{◌/ℚ◌};
+ghost use Rattle.dc_frac.specs.Fits.{product_fits, quotient_fits};
+ghost use Rattle.dc_frac.specs.Value.{value, IsChecked};
 ghost use Rattle.dc_sparse.specs.Entries.{entry_at, KeepsPlaces};
 ghost use Rattle.dc_sparse.specs.Rows.{KeepsRows};
 ghost use Rattle.dc_sparse.specs.Scales.{IsWhole, IsDen, AreParted};
@@ -16,6 +17,9 @@ use dc_frac::{Frac, gcd128};
 
 /// What whole numbers and denominators of rows stay below: 2^41. Products of three then fit 128 bits.
 const LIMIT: u128 = 0x200_0000_0000;
+
+/// The greatest signed word of the machine.
+const GREATEST_WORD: i128 = 0x7fff_ffff_ffff_ffff;
 
 /// Whether a number is whole and small.
 pub(crate) fn is_small(number: &Frac) -> bool
@@ -63,7 +67,7 @@ impl Web {
         let mut next = self.right_of(row, None);
         while let Some(node) = next {
             let at = self.nodes[node].col();
-            match self.nodes[node].value.div(by) {
+            match quotient(self.nodes[node].value, by) {
                 Some(part) => {
                     if !is_small(&part) {
                         return false;
@@ -168,4 +172,28 @@ fn joined(common: i128, den: i128) -> Option<i128>
     } else {
         None
     }
+}
+
+/// The quotient of a number by one that isn't 0; `None` exactly where it doesn't fit. Where a whole
+/// number divides another no common divisor is sought, and words are divided by one instruction.
+pub(crate) fn quotient(number: Frac, by: Frac) -> Option<Frac>
+    requires { is_zero (value by) ≡ false }
+    ensures { IsChecked result (quotient_fits (value number) (value by))
+        (value number /ℚ value by) }
+{
+    if number.den == 1 && by.den == 1 && is_word(number.num) && is_word(by.num) {
+        let dividend = number.num as i64;
+        let divisor = by.num as i64;
+        if dividend % divisor == 0 {
+            return Some(Frac::whole((dividend / divisor) as i128));
+        }
+    }
+    number.div(by)
+}
+
+/// Whether a number and its negation fit a signed word of the machine.
+fn is_word(number: i128) -> bool
+    ensures { IsTrue result → unsigned_abs number < 2 ^ 63 }
+{
+    -GREATEST_WORD <= number && number <= GREATEST_WORD
 }

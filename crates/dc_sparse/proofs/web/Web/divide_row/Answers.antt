@@ -52,7 +52,7 @@ set-requires-clause-nonzero c =
     let a : IsAcross c.args.self.now.nodes.items w.nodes.items c.args.row (value c.args.by) c.loop-next.done (Some n) = rw c.in-Some.is at c.loop-next.invariant.across in
     let inside = item_live w.nodes.items n a.next.0.live in
     let ev : value c.index-in-Some.result.now.value ≡ item w.nodes.items n = item-read w.nodes.items n c.index-in-Some.result.now inside c.index-in-Some.ensures in
-    ap is_zero (c.in-Some-div.ensures.1 ∙ ap (λ x. x /ℚ value c.args.by) ev) ∙ quotient-nonzero (item w.nodes.items n) (value c.args.by) (across_nonzero c.args.self.now.nodes.items w.nodes.items c.args.row (value c.args.by) c.loop-next.done n a w.woven.apart inside) c.requires.nonzero
+    ap is_zero (c.in-Some-quotient.ensures.1 ∙ ap (λ x. x /ℚ value c.args.by) ev) ∙ quotient-nonzero (item w.nodes.items n) (value c.args.by) (across_nonzero c.args.self.now.nodes.items w.nodes.items c.args.row (value c.args.by) c.loop-next.done n a w.woven.apart inside) c.requires.nonzero
 
 pub returns-in-None-clause-fits : goal.returns-in-None-clause-fits
 returns-in-None-clause-fits c =
@@ -109,13 +109,13 @@ loop-next-preserved c =
     let ev : value c.index-in-Some.result.now.value ≡ item w.nodes.items n = item-read w.nodes.items n c.index-in-Some.result.now inside c.index-in-Some.ensures in
     let width = c.loop-next.invariant.width in
     let in_table = (w.woven.within n a.next.0.live).1 in
-    let v = value c.in-Some-div.quotient in
+    let v = value c.in-Some-quotient.quotient in
     let newer = c.set.new.self in
     let s = across_stands c.args.self.now.nodes.items w.nodes.items c.args.row (value c.args.by) c.loop-next.done n a w.woven.apart inside in
     let t : StandsAt newer.nodes.items n c.args.row (col_at w.nodes.items n) = c.set.ensures.stays n c.args.row (col_at w.nodes.items n) s in
     let p : IsPut w.nodes.items newer.nodes.items c.args.row (col_at w.nodes.items n) v = c.set.ensures.entry c.args.row (col_at w.nodes.items n) s in
-    let f : quotient_fits (item w.nodes.items n) (value c.args.by) ≡ true = subst (λ (x : ℚ). quotient_fits x (value c.args.by) ≡ true) ev c.in-Some-div.ensures.0 in
-    let r : v ≡ item w.nodes.items n /ℚ value c.args.by = c.in-Some-div.ensures.1 ∙ ap (λ x. x /ℚ value c.args.by) ev in
+    let f : quotient_fits (item w.nodes.items n) (value c.args.by) ≡ true = subst (λ (x : ℚ). quotient_fits x (value c.args.by) ≡ true) ev c.in-Some-quotient.ensures.0 in
+    let r : v ≡ item w.nodes.items n /ℚ value c.args.by = c.in-Some-quotient.ensures.1 ∙ ap (λ x. x /ℚ value c.args.by) ev in
     let right : c.right-next.result ≡ right_at newer.nodes.items n = c.right-next.ensures.is ∙ right-read newer.nodes.items n c.index-in-Some-2.result.now (item_live newer.nodes.items n t.live) c.index-in-Some-2.ensures in
     record {
       across = rw (e, right) (across_step c.args.self.now.nodes.items w.nodes.items c.args.row (value c.args.by) c.loop-next.done n a w.woven.apart inside newer.nodes.items v (length newer.row_heads.items) (head_at newer.row_heads.items) f r p c.set.ensures.stays newer.woven.apart newer.woven.rows);

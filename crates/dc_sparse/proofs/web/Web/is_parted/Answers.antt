@@ -72,8 +72,8 @@ loop-next-preserved c =
     let ev : value c.index-in-Some.result.now.value ≡ entry_at w.nodes.items c.args.row (col_at w.nodes.items n) =
     item-read w.nodes.items n c.index-in-Some.result.now inside c.index-in-Some.ensures ∙ sym (entry-node w.nodes.items n c.args.row (col_at w.nodes.items n) inside w.woven.apart (record { live = f.0.live; row = f.0.line; col = refl })) in
     let p : IsPart (entry_at w.nodes.items c.args.row (col_at w.nodes.items n)) (value c.args.by) = subst (λ (x : ℚ). IsPart x (value c.args.by)) ev (record {
-      fit = c.in-Some-div.ensures.0;
-      whole = subst (IsWhole 41) c.in-Some-div.ensures.1 (c.is_small.ensures c.if-not-is_small.false);
+      fit = c.in-Some-quotient.ensures.0;
+      whole = subst (IsWhole 41) c.in-Some-quotient.ensures.1 (c.is_small.ensures c.if-not-is_small.false);
     }) in
     record {
       parts = rw e (each_node (λ x. IsPart x (value c.args.by)) (part_zero (value c.args.by)) w.nodes.items c.args.row c.loop-next.done n f c.loop-next.invariant.parts p);
