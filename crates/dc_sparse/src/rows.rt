@@ -5,12 +5,12 @@ ghost use Rattle.std.specs.Prelude.{◌≡◌, ◌≢◌, ◌+◌, ◌<◌, ◌�
 ghost use Rattle.dc_math.specs.Tests.{is_zero};
 ghost use Rattle.dc_frac.specs.Value.{value, IsChecked};
 ghost use Rattle.dc_start.specs.Changes.{step_fits};
-ghost use Rattle.dc_sparse.specs.Lines.{IsLast};
+ghost use Rattle.dc_sparse.specs.Lines.{IsFirst, IsLast};
 ghost use Rattle.dc_sparse.specs.Entries.{entry_at, IsNodeAt, KeepsPlaces};
 ghost use Rattle.dc_sparse.specs.Rows.{IsFirstNegative, reductions_fit, reduced_entry, row_gaps, AreReduced, KeepsRows};
 ghost use Rattle.dc_sparse.specs.Rows.{divisions_fit, AreDivided, rows_gaps, entries_in};
 ghost use Rattle.dc_sparse.specs.Scales.{IsWhole, AreSmall};
-ghost use Rattle.dc_sparse.specs.Held.{nodes_of, node_count, height_of, width_of, rows_of};
+ghost use Rattle.dc_sparse.specs.Held.{nodes_of, node_count, height_of, width_of, rows_of, columns_of};
 
 use crate::web::Web;
 use crate::whole::{is_small, quotient};
@@ -160,28 +160,8 @@ impl Web {
         }
     }
 
-    /// How many entries the pivot at a place makes from 0; `None` where that passes 64 bits.
-    pub(crate) fn gaps(&self, pivot: usize, col: usize) -> Option<usize>
-        requires pivot { pivot < height_of self.now }
-        requires col { col < width_of self.now }
-        ensures { IfSome result (λ n. n ≡ rows_gaps (nodes_of self.now) (width_of self.now) pivot col (height_of self.now)) }
-    {
-        let mut count: usize = 0;
-        let mut done = 0;
-        let mut next = self.down_of(col, None);
-        while let Some(node) = next {
-            let row = self.nodes[node].row();
-            if row != pivot {
-                count = count.checked_add(self.row_gaps(row, pivot))?;
-            }
-            done = row + 1;
-            next = self.nodes[node].down();
-        }
-        Some(count)
-    }
-
     /// How many nodes are to be free for the pivot at a place: as many as it makes entries from 0, or 0 where enough are free for sure.
-    /// `None` where that passes 64 bits.
+    /// Rows are counted until the free nodes suffice for the rest of them. `None` where the number passes 64 bits.
     pub(crate) fn need(&self, pivot: usize, col: usize) -> Option<usize>
         requires pivot { pivot < height_of self.now }
         requires col { col < width_of self.now }
@@ -190,27 +170,52 @@ impl Web {
             ≡ max self.now.spare (rows_gaps (nodes_of self.now) (width_of self.now) pivot col
             (height_of self.now))) }
     {
-        if self.suffices(pivot, col) {
-            return Some(0);
+        let across = self.row_length(pivot) - 1;
+        let mut count: usize = 0;
+        let mut done = 0;
+        let mut next = self.down_of(col, None);
+        while let Some(node) = next {
+            let row = self.nodes[node].row();
+            if row != pivot {
+                if self.suffices(pivot, col, across, count, done, next) {
+                    return Some(0);
+                }
+                count = count.checked_add(self.row_gaps(row, pivot))?;
+            }
+            done = row + 1;
+            next = self.nodes[node].down();
         }
-        self.gaps(pivot, col)
+        Some(count)
     }
 
-    /// Whether the free nodes suffice for the pivot at a place even if no other row that has an entry in its column has one in the other
-    /// columns of the pivot's row.
-    fn suffices(&self, pivot: usize, col: usize) -> bool
+    /// Whether the free nodes suffice for the pivot at a place even if no other row from `from` on that has an entry in its column has
+    /// one in the other columns of the pivot's row. The rows before make `count` entries from 0, and `first` is the column's next node.
+    fn suffices(
+        &self,
+        pivot: usize,
+        col: usize,
+        across: usize,
+        count: usize,
+        from: usize,
+        first: Option<usize>,
+    ) -> bool
         requires pivot { pivot < height_of self.now }
         requires col { col < width_of self.now }
         requires entry { is_zero (entry_at (nodes_of self.now) pivot col) ≡ false }
+        requires across { across + 1 ≡ entries_in (entry_at (nodes_of self.now) pivot) (width_of self.now) }
+        requires count { count ≡ rows_gaps (nodes_of self.now) (width_of self.now) pivot col from }
+        requires first { IsFirst (columns_of self.now) col from first }
+        requires within { from ≤ height_of self.now }
         ensures { IsTrue result
             → rows_gaps (nodes_of self.now) (width_of self.now) pivot col (height_of self.now)
             ≤ self.now.spare }
     {
-        let length = self.row_length(pivot);
-        let across = length - 1;
-        let mut left = self.spare;
-        let mut done = 0;
-        let mut next = self.down_of(col, None);
+        if count > self.spare {
+            return false;
+        }
+        let mut left = self.spare - count;
+        let mut done = from;
+        let mut next = first;
         while let Some(node) = next {
             let row = self.nodes[node].row();
             if row != pivot {

@@ -1,27 +1,17 @@
-use Rattle.std.proofs.Common.{◌≡◌, ◌≤◌, ◌+◌, ◌∙◌, length, arith, Some, None, sym}
+use Rattle.std.proofs.Common.{◌≡◌, ◌≤◌, ◌+◌, ◌∙◌, length, arith, Some, None, refl, sym}
 use Rattle.dc_sparse.specs.Nodes.{row_at, down_at, head_at}
-use Rattle.dc_sparse.specs.Entries.{entry_at}
-use Rattle.dc_sparse.specs.Rows.{row_gaps, rows_gaps, entries_in}
+use Rattle.dc_sparse.specs.Rows.{row_gaps, rows_gaps}
 use Rattle.dc_sparse.proofs.Cells.{item_live}
 use Rattle.dc_sparse.proofs.Links.{row-read, down-read}
-use Rattle.dc_sparse.proofs.ColumnSteps.{AreCounted, counted_start, counted_pivot, counted_more, counted_entry, counted_end, counted_so_far}
+use Rattle.dc_sparse.proofs.ColumnSteps.{AreCounted, counted_pivot, counted_more, counted_entry, counted_end, counted_so_far}
 use Rattle.dc_sparse.proofs.web.Web.suffices.Goals as goal
 use Rattle.dc_sparse.proofs.web.Web.suffices.Goals.{then-row-pivot+else-left-across, else-row-pivot}
 use Rattle.dc_sparse.proofs.RowSteps.{row_gaps-less}
 
-pub overflow_sub-across : goal.overflow_sub-across
-overflow_sub-across c =
-    let w = c.args.self.now in
-    let g = row_gaps-less w.nodes.items c.args.pivot c.args.pivot c.args.col (length w.col_heads.items) c.requires.col c.requires.entry c.requires.entry in
-    let x : c.row_length-length.result ≡ entries_in (entry_at w.nodes.items c.args.pivot) (length w.col_heads.items) = c.row_length-length.ensures in
-    omega arith
-
 pub loop-next-init : goal.loop-next-init
 loop-next-init c =
-    let w = c.args.self.now in
-    let s = counted_start w.nodes.items (length w.col_heads.items) c.args.pivot c.args.col c.down_of-next.result c.down_of-next.ensures in
-    let z = s.counted in
-    record { counting = counted_so_far w.nodes.items (length w.col_heads.items) c.args.pivot c.args.col 0 0 c.down_of-next.result s; room = omega arith; within = omega arith }
+    let e = c.requires.count in
+    record { counting = record { counted = refl; next = c.requires.first }; room = omega (arith, c.if-count-self.false); within = c.requires.within }
 
 pub index-requires : goal.index-requires
 index-requires c =
@@ -79,7 +69,7 @@ loop-next-preserved c =
           let q : count + row_gaps w.nodes.items (row_at w.nodes.items n) c.args.pivot (length w.col_heads.items) ≡ rows_gaps w.nodes.items (length w.col_heads.items) c.args.pivot c.args.col (row_at w.nodes.items n + 1) = m.counted in
           let nz = counted_entry w.nodes.items (length w.col_heads.items) c.args.pivot c.args.col count c.loop-next.done n a w.woven.apart inside (length w.col_heads.items) (head_at w.col_heads.items) w.woven.columns in
           let g = row_gaps-less w.nodes.items (row_at w.nodes.items n) c.args.pivot c.args.col (length w.col_heads.items) c.requires.col nz c.requires.entry in
-          let x : c.row_length-length.result ≡ entries_in (entry_at w.nodes.items c.args.pivot) (length w.col_heads.items) = c.row_length-length.ensures in
+          let x = c.requires.across in
           let s : rows_gaps w.nodes.items (length w.col_heads.items) c.args.pivot c.args.col (row_at w.nodes.items n + 1) + c.if-row-pivot.left ≤ w.spare = omega (arith, v.left-is, v.if-left-across.false) in
           record { counting = rw (e, ed) (counted_so_far w.nodes.items (length w.col_heads.items) c.args.pivot c.args.col (count + row_gaps w.nodes.items (row_at w.nodes.items n) c.args.pivot (length w.col_heads.items)) (row_at w.nodes.items n + 1) (down_at w.nodes.items n) m); room = rw e s; within = omega arith }
       | else-row-pivot v ↦

@@ -1,6 +1,6 @@
 use Rattle.std.proofs.Common.{◌≤◌, ◌-◌, length}
 use Rattle.dc_sparse.proofs.ColumnSteps.{AreCounted}
-use Rattle.dc_sparse.proofs.web.Web.gaps.Given as goal
+use Rattle.dc_sparse.proofs.web.Web.need.Given as goal
 
 abbrev pub invariant-loop-next : goal.invariant-loop-next
 invariant-loop-next l = record {
