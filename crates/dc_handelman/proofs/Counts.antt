@@ -1,7 +1,7 @@
 -- The number of choices goes by Pascal's rule, so one division gives the next number.
-use Rattle.std.specs.Prelude.{◌≡◌, ℕ, zero, suc, ◌+◌, ◌*◌, ◌≤◌, List, [], ◌∷◌, map, length, refl}
-use Rattle.std.proofs.Common.{◌∙◌, ap, ap₂, arith, length-append}
-use Rattle.dc_math.specs.OrderedLists.{length-map}
+use Rattle.std.specs.Prelude.{◌≡◌, ℕ, zero, suc, ◌+◌, ◌-◌, ◌*◌, ◌/◌, ◌≤◌, List, ◌∷◌, map, length, refl}
+use Rattle.std.proofs.Common.{◌∙◌, ap₂, arith, length-append}
+use Rattle.std.proofs.lemmas.List.{length-map}
 use Rattle.dc_math.specs.Pascal as pascals
 use Rattle.dc_math.specs.Pascal.{IsPascal}
 use Rattle.dc_poly.proofs.Sizes.{mul_both}
@@ -12,11 +12,11 @@ widened-same : (a b : ℕ) (f g : ℕ → List Choice) → ((k : ℕ) → length
 widened-same a b f g h zero = refl
 widened-same a b f g h (suc k) =
     length-append (map (λ c. a ∷ c) (widened a f k)) (f (suc k))
-    ∙ ap₂ ◌+◌ (length-map (λ c. a ∷ c) (widened a f k) ∙ widened-same a b f g h k) (h (suc k))
+    ∙ ap₂ ◌+◌ (length-map (widened a f k) (λ c. a ∷ c) ∙ widened-same a b f g h k) (h (suc k))
     ∙ back
   where
     back : length (widened b g k) + length (g (suc k)) ≡ length (widened b g (suc k))
-    back = (let x = length-append (map (λ c. b ∷ c) (widened b g k)) (g (suc k)) in let y = length-map (λ c. b ∷ c) (widened b g k) in omega arith)
+    back = (let x = length-append (map (λ c. b ∷ c) (widened b g k)) (g (suc k)) in let y = length-map (widened b g k) (λ c. b ∷ c) in omega arith)
 
 same : (n a b k : ℕ) → length (of_size n a k) ≡ length (of_size n b k)
 same zero a b zero = refl
@@ -29,7 +29,7 @@ below_more n k = length-append (below n k) (of_size n 0 k)
 next_more : (n k : ℕ) → length (of_size (suc n) 0 (suc k)) ≡ length (of_size (suc n) 0 k) + length (of_size n 0 (suc k))
 next_more n k =
     let a = length-append (map (λ c. 0 ∷ c) (of_size (suc n) 0 k)) (of_size n 1 (suc k)) in
-    let b = length-map (λ c. 0 ∷ c) (of_size (suc n) 0 k) in
+    let b = length-map (of_size (suc n) 0 k) (λ c. 0 ∷ c) in
     let d = same n 1 0 (suc k) in
     omega arith
 
@@ -56,8 +56,14 @@ no_factors (suc n) = let a = below_more (suc n) 0 in let b = level_is n 0 in let
 abbrev count : ℕ → ℕ → ℕ
 count n k = length (choices_of n k)
 
-pub higher : (n k : ℕ) → suc k * length (choices_of n (suc k)) ≡ suc (n + k) * length (choices_of n k)
-higher n k = pascals.higher count (record { none = no_numbers; empty = no_factors; rule = rule }) n k
+pascal : IsPascal count
+pascal = record { none = no_numbers; empty = no_factors; rule = rule }
+
+higher : (n k : ℕ) → suc k * length (choices_of n (suc k)) ≡ suc (n + k) * length (choices_of n k)
+higher n k = pascals.higher count pascal n k
+
+pub next : (n k x : ℕ) → 1 ≤ k → x ≡ length (choices_of n (k - 1)) → x * (n + k) / k ≡ length (choices_of n k)
+next n k x h e = pascals.next count pascal n k x h e
 
 -- ---- a bound for the numbers that are asked for
 next_small : (n k x y : ℕ) → n ≤ 2048 → k ≤ 2 → suc k * y ≡ suc (n + k) * x → y ≤ 2051 * x

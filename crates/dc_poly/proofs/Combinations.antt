@@ -7,7 +7,6 @@ use Rattle.dc_math.specs.Rational.{ℚ, ◌+ℚ◌, ◌*ℚ◌, of_ℤ, of_ℤ-+
 use Rattle.dc_math.specs.RationalRing.{ring, reads, read_nat, same_form}
 use Rattle.dc_math.specs.Order.{Positive, Positive_nonzero, Positive-*ℚ, one_positive, of_ℤ-<, of_ℤ_injective, *ℚ_zero, ratio-*ℚ-den}
 use Rattle.dc_math.specs.Lowest.{lowest, ratio-lowest}
-use Rattle.dc_math.specs.Cones.{Each}
 use Rattle.dc_poly.specs.Terms.{Exponents, TermList, term, mono_value, value, same_mono, coef, Places}
 use Rattle.dc_poly.specs.Sums.{plus}
 use Rattle.dc_poly.specs.Combinations.{Multiple, combination, value_of, coef_of, HavePlaces}
