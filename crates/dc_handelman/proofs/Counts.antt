@@ -1,6 +1,6 @@
 -- The number of choices goes by Pascal's rule, so one division gives the next number.
-use Rattle.std.specs.Prelude.{◌≡◌, ℕ, zero, suc, ◌+◌, ◌*◌, ◌≤◌, List, [], ◌∷◌, map, length, refl}
-use Rattle.std.proofs.Common.{◌∙◌, ap, ap₂, arith, length-append}
+use Rattle.std.specs.Prelude.{◌≡◌, ℕ, zero, suc, ◌+◌, ◌-◌, ◌*◌, ◌/◌, ◌≤◌, List, ◌∷◌, map, length, refl}
+use Rattle.std.proofs.Common.{◌∙◌, ap₂, arith, length-append}
 use Rattle.std.proofs.lemmas.List.{length-map}
 use Rattle.dc_math.specs.Pascal as pascals
 use Rattle.dc_math.specs.Pascal.{IsPascal}
@@ -56,8 +56,14 @@ no_factors (suc n) = let a = below_more (suc n) 0 in let b = level_is n 0 in let
 abbrev count : ℕ → ℕ → ℕ
 count n k = length (choices_of n k)
 
-pub higher : (n k : ℕ) → suc k * length (choices_of n (suc k)) ≡ suc (n + k) * length (choices_of n k)
-higher n k = pascals.higher count (record { none = no_numbers; empty = no_factors; rule = rule }) n k
+pascal : IsPascal count
+pascal = record { none = no_numbers; empty = no_factors; rule = rule }
+
+higher : (n k : ℕ) → suc k * length (choices_of n (suc k)) ≡ suc (n + k) * length (choices_of n k)
+higher n k = pascals.higher count pascal n k
+
+pub next : (n k x : ℕ) → 1 ≤ k → x ≡ length (choices_of n (k - 1)) → x * (n + k) / k ≡ length (choices_of n k)
+next n k x h e = pascals.next count pascal n k x h e
 
 -- ---- a bound for the numbers that are asked for
 next_small : (n k x y : ℕ) → n ≤ 2048 → k ≤ 2 → suc k * y ≡ suc (n + k) * x → y ≤ 2051 * x

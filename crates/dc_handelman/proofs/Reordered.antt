@@ -1,25 +1,25 @@
 -- Products do not depend on the order of their factors.
-use Rattle.std.specs.Prelude.{◌≡◌, ◌⊎◌, ℕ, zero, suc, ◌≤◌, ◌<◌, Bool, true, false, ◌&&◌, cond, leb, List, [], ◌∷◌, map, length, All, Contains, slice_index_or, ℤ, pos, ◌*ℤ◌, ◌≤ℤ◌, refl}
+use Rattle.std.specs.Prelude.{◌≡◌, ◌⊎◌, ℕ, zero, suc, ◌≤◌, ◌<◌, Bool, true, false, cond, leb, List, [], ◌∷◌, map, length, All, Contains, ℤ, pos, ◌*ℤ◌, ◌≤ℤ◌, refl}
 use Rattle.std.specs.List.{AllByRecursion, swap}
 use Rattle.std.specs.List.Sorted.{IsPermutation}
-use Rattle.std.proofs.Common.{sym, ◌∙◌, ap, ap₂, subst, arith, inl, inr, get_or, set}
+use Rattle.std.proofs.Common.{sym, ◌∙◌, ap, ap₂, arith, inl, inr, get_or, set}
 use Rattle.std.proofs.lemmas.Bool.{and_parts, leb-true, leb-false}
 use Rattle.std.proofs.lemmas.Int.{ints}
-use Rattle.std.proofs.lemmas.List.{set-get_or, get_or-set_other, length-set}
+use Rattle.std.proofs.lemmas.List.{set-get_or}
 use Rattle.std.proofs.lemmas.List.Edits.{swap_is}
 use Rattle.std.proofs.lemmas.List.Elements.{All-from_recursion, recursion_from_All}
 use Rattle.std.proofs.lemmas.List.Sorted.{IsPermutation-refl, IsPermutation-trans, IsPermutation-cons, IsPermutation-middle, IsPermutation-keeps, length_permutation}
 use Rattle.dc_math.specs.Members.{among_image, among_contained, contained_among}
-use Rattle.dc_math.specs.WholeRing.{ring, reads, read_nat, same_form}
-use Rattle.dc_poly.specs.Terms.{Polynomial, polynomial, TermList, value, Canonical, Places}
-use Rattle.dc_poly.specs.Sums.{constant, variable, product_of, constant_of, variable_of, times}
+use Rattle.dc_math.specs.WholeRing.{ring, reads, same_form}
+use Rattle.dc_poly.specs.Terms.{Polynomial, polynomial, value, Canonical, Places}
+use Rattle.dc_poly.specs.Sums.{constant, product_of, constant_of, variable_of, times}
 use Rattle.dc_poly.proofs.Values.{Canonical-constant, Canonical-times}
 use Rattle.dc_poly.proofs.Padded.{Places-constant, Places-variable, Places-plus, Places-times}
 use Rattle.dc_poly.proofs.Unique.{values_unique}
 use Rattle.dc_affine.specs.declared.atom.Atom.{Atom}
-use Rattle.dc_affine.specs.Atoms.{IsAtom, AllAtoms, atom_value, holds_at, all_hold}
+use Rattle.dc_affine.specs.Atoms.{atom_value, holds_at, all_hold}
 use Rattle.dc_affine.proofs.TableLaws.{le_of}
-use Rattle.dc_handelman.specs.Choices.{Choice, Rises, IsChoice, choices_of}
+use Rattle.dc_handelman.specs.Choices.{Choice, Rises, choices_of}
 use Rattle.dc_handelman.specs.Products.{linear_of, form_of, factor_at, times_choice, product_at, products_of, atom_at, choice_value, FactorsHold, HoldTogether, OrderIsFree, EachIsSorted, EachProductStands}
 use Rattle.dc_handelman.proofs.Listed.{are_choices}
 use Rattle.dc_handelman.proofs.Values.{have_values, stay_above_zero}

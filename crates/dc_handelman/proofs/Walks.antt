@@ -1,7 +1,6 @@
 -- One step of the walk that makes the list, and of the loop that counts it.
 use Rattle.std.specs.Prelude.{◌≡◌, ℕ, zero, suc, ◌+◌, ◌-◌, ◌*◌, ◌/◌, ◌≤◌, ◌<◌, List, [], ◌∷◌, ◌++◌, map, length, All, ℤ, pos, refl}
 use Rattle.std.proofs.Common.{sym, ◌∙◌, ap, ap₂, subst, arith, append_assoc, get_or, take, drop}
-use Rattle.std.proofs.Math.Nat.{mul-div_cancel_left}
 use Rattle.std.proofs.lemmas.List.{map-append, take_all}
 use Rattle.dc_poly.specs.Terms.{Polynomial}
 use Rattle.dc_poly.specs.Sums.{constant, variable, sum_of, product_of}
@@ -10,7 +9,7 @@ use Rattle.dc_affine.specs.declared.atom.Atom.{Atom}
 use Rattle.dc_affine.specs.Atoms.{AllFit, IsAtom, AllAtoms}
 use Rattle.dc_handelman.specs.Choices.{Choice, of_size, below, choices_of}
 use Rattle.dc_handelman.specs.Products.{linear_of, form_of, factor_at, times_choice, product_at, products_of, IsProduct}
-use Rattle.dc_handelman.proofs.Counts.{higher, no_factors, count_small}
+use Rattle.dc_handelman.proofs.Counts.{next, no_factors, count_small}
 use Rattle.dc_handelman.proofs.Values.{can_scale, can_add_rest, can_add_constant, can_times, is_times, is_more, is_one, factor_is, all_factors, all_products}
 
 -- ---- the count
@@ -18,15 +17,7 @@ pub count_start : (n : ℕ) → 1 ≡ length (choices_of n 0)
 count_start n = sym (no_factors n)
 
 pub count_step : (n k x : ℕ) → 1 ≤ k → x ≡ length (choices_of n (k - 1)) → x * (n + k) / k ≡ length (choices_of n (k + 1 - 1))
-count_step n zero x h e = absurd (omega arith)
-count_step n (suc d) x h e =
-    ap (λ y. y / suc d) product ∙ mul-div_cancel_left (length (choices_of n (suc d))) h ∙ ap (λ i. length (choices_of n i)) (let q : suc d ≡ suc d + 1 - 1 = omega arith in q)
-  where
-    product : x * (n + suc d) ≡ suc d * length (choices_of n (suc d))
-    product = (let a = e ∙ ap (λ i. length (choices_of n i)) (let q : suc d - 1 ≡ d = omega arith in q) in let b = higher n d in turn x (length (choices_of n d)) (length (choices_of n (suc d))) n d a b)
-      where
-        turn : (x y z n d : ℕ) → x ≡ y → suc d * z ≡ suc (n + d) * y → x * (n + suc d) ≡ suc d * z
-        turn x y z n d a b = rw a (omega arith)
+count_step n k x h e = next n k x h e ∙ ap (λ i. length (choices_of n i)) (let q : k ≡ k + 1 - 1 = omega arith in q)
 
 pub count_fits : (n k x : ℕ) → n ≤ 2048 → 1 ≤ k → k ≤ 3 → x ≡ length (choices_of n (k - 1)) → x ≤ 2051 * (2051 * 2051)
 count_fits n k x a b c e = let s = count_small n (k - 1) (omega arith) (omega arith) in omega arith

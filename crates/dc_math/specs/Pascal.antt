@@ -1,7 +1,7 @@
 -- Numbers that obey Pascal's rule: one division gives the next, and none passes a power of 2.
-use Rattle.std.specs.Prelude.{◌≡◌, ℕ, zero, suc, ◌+◌, ◌*◌, ◌^◌, ◌≤◌}
+use Rattle.std.specs.Prelude.{◌≡◌, ℕ, zero, suc, ◌+◌, ◌-◌, ◌*◌, ◌/◌, ◌^◌, ◌≤◌}
 use Rattle.std.proofs.Common.{◌∙◌, ap, arith}
-use Rattle.std.proofs.Math.Nat.{pow-succ', pow-zero}
+use Rattle.std.proofs.Math.Nat.{pow-succ', pow-zero, mul-div_cancel_left}
 
 -- the numbers of choices of at most k of n things, repeats allowed: the binomial coefficient of n + k over k
 pub record IsPascal (c : ℕ → ℕ → ℕ) : Type 0 where
@@ -24,6 +24,17 @@ module _ (c : ℕ → ℕ → ℕ) (pascal : IsPascal c) where
   pub higher : (n k : ℕ) → suc k * c n (suc k) ≡ suc (n + k) * c n k
   higher zero k = rw (pascal.none k, pascal.none (suc k)) (omega arith)
   higher (suc n) k = ap (λ z. suc k * z) (pascal.rule n k) ∙ up n k (c n k) (c n (suc k)) (c (suc n) k) (higher n k) (wider n (higher n) k)
+
+  -- the same as a quotient, from any way to say the number before
+  pub next : (n k x : ℕ) → 1 ≤ k → x ≡ c n (k - 1) → x * (n + k) / k ≡ c n k
+  next n zero x h e = absurd (omega arith)
+  next n (suc k) x h e = ap (λ y. y / suc k) product ∙ mul-div_cancel_left (c n (suc k)) h
+    where
+      product : x * (n + suc k) ≡ suc k * c n (suc k)
+      product = let a : x ≡ c n k = e ∙ ap (c n) (let q : suc k - 1 ≡ k = omega arith in q) in turn x (c n k) (c n (suc k)) a (higher n k)
+        where
+          turn : (x y z : ℕ) → x ≡ y → suc k * z ≡ suc (n + k) * y → x * (n + suc k) ≡ suc k * z
+          turn x y z a b = rw a (omega arith)
 
   -- at least 1 doubles to at least 1
   some : (n : ℕ) → 1 ≤ 2 ^ n

@@ -1,5 +1,5 @@
 -- The number of monomials goes by Pascal's rule.
-use Rattle.std.specs.Prelude.{◌≡◌, ℕ, zero, suc, ◌+◌, List, [], ◌∷◌, map, length, refl}
+use Rattle.std.specs.Prelude.{◌≡◌, ℕ, zero, suc, ◌+◌, List, ◌∷◌, map, length, refl}
 use Rattle.std.proofs.Common.{◌∙◌, ap₂, arith, length-append}
 use Rattle.std.proofs.lemmas.List.{length-map}
 use Rattle.dc_math.specs.Pascal.{IsPascal}

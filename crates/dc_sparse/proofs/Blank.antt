@@ -102,6 +102,3 @@ keeps_put xs ys zs i k v h p = record {
   stays = λ n a b ne s. p.stays n a b ne (h.stays n a b s);
   stood = λ n a b ne s. h.stood n a b (p.stood n a b ne s);
 }
-
-pub keeps_last : (xs ys : List Node) (i k : ℕ) → KeepsAll xs ys → IsLast (by_rows xs) i k None → IsLast (by_rows ys) i k None
-keeps_last xs ys i k h l c b = (let s = h.stood c i (col_at ys c) (record { live = b.live; row = b.line; col = refl }) in let e = s.col in let p = b.place in l c (record { live = s.live; line = s.row; place = omega arith }))

@@ -2,7 +2,6 @@
 use Rattle.std.specs.Prelude.{◌≡◌, ℕ, zero, suc, ◌+◌, ◌-◌, ◌*◌, ◌/◌, ◌≤◌, ◌<◌, List, [], ◌∷◌, ◌++◌, map, length, refl}
 use Rattle.std.specs.List.{AllByRecursion}
 use Rattle.std.proofs.Common.{sym, ◌∙◌, ap, ap₂, arith, append_assoc}
-use Rattle.std.proofs.Math.Nat.{mul-div_cancel_left}
 use Rattle.std.proofs.lemmas.List.{map-append, append-nil}
 use Rattle.dc_poly.specs.Terms.{Exponents, degree}
 use Rattle.dc_poly.specs.Sums.{times_mono, zeros, unit_at}
@@ -11,7 +10,7 @@ use Rattle.dc_poly.proofs.Degrees.{degree-times_mono, degree-unit_at, degree-zer
 use Rattle.dc_poly.specs.Monomials.{raised, of_degree, below, monomials_of}
 use Rattle.dc_template.specs.Monomials.{joined, continued}
 use Rattle.dc_poly.proofs.Listed.{IsExact, exact}
-use Rattle.dc_template.proofs.Counts.{higher, no_degree, count_small}
+use Rattle.dc_template.proofs.Counts.{next, no_degree, count_small}
 
 times-zeros : (m : Exponents) (n : ℕ) → n ≤ length m → times_mono m (zeros n) ≡ m
 times-zeros [] zero h = refl
@@ -126,15 +125,7 @@ pub count_start : (n : ℕ) → 1 ≡ length (monomials_of n 0)
 count_start n = sym (no_degree n)
 
 pub count_step : (n k x : ℕ) → 1 ≤ k → x ≡ length (monomials_of n (k - 1)) → x * (n + k) / k ≡ length (monomials_of n (k + 1 - 1))
-count_step n zero x h e = absurd (omega arith)
-count_step n (suc d) x h e =
-    ap (λ y. y / suc d) product ∙ mul-div_cancel_left (length (monomials_of n (suc d))) h ∙ ap (λ i. length (monomials_of n i)) (let q : suc d ≡ suc d + 1 - 1 = omega arith in q)
-  where
-    product : x * (n + suc d) ≡ suc d * length (monomials_of n (suc d))
-    product = (let a = e ∙ ap (λ i. length (monomials_of n i)) (let q : suc d - 1 ≡ d = omega arith in q) in let b = higher n d in turn x (length (monomials_of n d)) (length (monomials_of n (suc d))) n d a b)
-      where
-        turn : (x y z n d : ℕ) → x ≡ y → suc d * z ≡ suc (n + d) * y → x * (n + suc d) ≡ suc d * z
-        turn x y z n d a b = rw a (omega arith)
+count_step n k x h e = next n k x h e ∙ ap (λ i. length (monomials_of n i)) (let q : k ≡ k + 1 - 1 = omega arith in q)
 
 pub count_fits : (n k x : ℕ) → n ≤ 10 → 1 ≤ k → k ≤ 3 → x ≡ length (monomials_of n (k - 1)) → x ≤ 8192
 count_fits n k x a b c e = let s = count_small n (k - 1) (omega arith) in omega arith
