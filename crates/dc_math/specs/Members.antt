@@ -69,6 +69,24 @@ each_range P a zero h i l = absurd (omega arith)
 each_range P a (suc n) h zero l = subst P (let e : a ≡ a + 0 = omega arith in e) h.0
 each_range P a (suc n) h (suc i) l = subst P (let e : (a + 1) + i ≡ a + suc i = omega arith in e) (each_range P (a + 1) n h.1 i (omega arith))
 
+module _ {A : Type 0} (P : A → Type 0) where
+  pub each_at : (xs : List A) (k : ℕ) (d : A) → AllByRecursion P xs → k < length xs → P (slice_index_or xs k d)
+  each_at [] k d h l = absurd (omega arith)
+  each_at (x ∷ xs) zero d h l = h.0
+  each_at (x ∷ xs) (suc k) d h l = each_at xs k d h.1 (omega arith)
+
+  pub each_at_or : (xs : List A) (k : ℕ) (d : A) → AllByRecursion P xs → P d → P (slice_index_or xs k d)
+  each_at_or [] k d h n = n
+  each_at_or (x ∷ xs) zero d h n = h.0
+  each_at_or (x ∷ xs) (suc k) d h n = each_at_or xs k d h.1 n
+
+  pub each_is : (xs : List A) (k : ℕ) (x : A) → AllByRecursion P xs → k < length xs → x ≡ slice_index_or xs k x → P x
+  each_is xs k x h l e = subst P (sym e) (each_at xs k x h l)
+
+  pub at_each : (xs : List A) (d : A) → ((k : ℕ) → k < length xs → P (slice_index_or xs k d)) → AllByRecursion P xs
+  at_each [] d h = tt
+  at_each (x ∷ xs) d h = (h 0 (omega arith), at_each xs d (λ k l. h (suc k) (omega arith)))
+
 pub each_get : {A : Type 0} (P : A → Type 0) (xs : List A) → ((i : ℕ) (x : A) → slice_get xs i ≡ Some x → P x) → AllByRecursion P xs
 each_get P [] h = tt
 each_get P (x ∷ xs) h = (h 0 x refl, each_get P xs (λ i y e. h (suc i) y e))
