@@ -17,7 +17,7 @@ use Rattle.dc_poly.proofs.Values.{Canonical-constant, Canonical-times}
 use Rattle.dc_poly.proofs.Padded.{Places-constant, Places-variable, Places-plus, Places-times}
 use Rattle.dc_poly.proofs.Unique.{values_unique}
 use Rattle.dc_affine.specs.declared.atom.Atom.{Atom}
-use Rattle.dc_affine.specs.Atoms.{IsAtom, AllAtoms, atom_value, holds_at, all_hold}
+use Rattle.dc_affine.specs.Atoms.{IsAtom, atom_value, holds_at, all_hold}
 use Rattle.dc_affine.proofs.TableLaws.{le_of}
 use Rattle.dc_handelman.specs.Choices.{Choice, Rises, IsChoice, choices_of}
 use Rattle.dc_handelman.specs.Products.{linear_of, form_of, factor_at, times_choice, product_at, products_of, atom_at, choice_value, FactorsHold, HoldTogether, OrderIsFree, EachIsSorted, EachProductStands}
