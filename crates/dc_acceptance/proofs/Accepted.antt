@@ -3,6 +3,7 @@ use Rattle.std.specs.Prelude.{◌≡◌, ℕ, Bool, true, false, ltb, if◌then�
 use Rattle.std.specs.Option.{option_and_then}
 use Rattle.std.specs.List.{AllByRecursion}
 use Rattle.std.proofs.Common.{refl, sym, ◌∙◌, ap, subst, arith, inl, inr}
+use Rattle.dc_math.specs.Members.{each-++}
 use Rattle.dc_math.specs.Rational.{ℚ}
 use Rattle.dc_syntax.specs.declared.tree.Proc.{Proc}
 use Rattle.dc_syntax.specs.declared.tree.Side.{Side}
@@ -10,7 +11,7 @@ use Rattle.dc_syntax.specs.declared.tree.Side.TheVariants.{New, Old}
 use Rattle.dc_syntax.specs.declared.tree.Count.{Count}
 use Rattle.dc_syntax.specs.declared.tree.Count.TheVariants.{Locations, Edges, Rows, Bounds}
 use Rattle.dc_affine.specs.declared.atom.Atom.{Atom}
-use Rattle.dc_affine.specs.Atoms.{IsAtom, IsFullAtom, AllAtoms, AllCases}
+use Rattle.dc_affine.specs.Atoms.{IsAtom, IsFullAtom, AllCases}
 use Rattle.dc_lp.specs.Tables.{Table}
 use Rattle.dc_program.specs.Programs.{IsProgram}
 use Rattle.dc_system.specs.declared.edges.System.{System}
@@ -38,7 +39,6 @@ use Rattle.dc_families.specs.Families.{family_of}
 use Rattle.dc_families.specs.Rounds.{IsInductive, IsGreatest}
 use Rattle.dc_families.proofs.Folds.{systems_are_graphs}
 use Rattle.dc_families.proofs.Prunes.{printed_are_inductive}
-use Rattle.dc_families.proofs.Lists.{all_both}
 use Rattle.dc_invariant.specs.Keeps.{IsSidePart, AreLive}
 use Rattle.dc_invariant.proofs.Whole.{printed_are_atoms}
 use Rattle.dc_claims.specs.Duties.{Pair, Flags}
@@ -105,13 +105,13 @@ within i e =
     record { new = system_within New i.new x.0; old = system_within Old i.old y.0; new_rows = rows_within New c z.0; old_rows = rows_within Old d w.0 }
 
 -- ---- the atoms of all cases
-full_within : (n : ℕ) (atoms : List Atom) → AllAtoms (IsFullAtom n) atoms → AllAtoms (IsAtom n) atoms
+full_within : (n : ℕ) (atoms : List Atom) → AllByRecursion (IsFullAtom n) atoms → AllByRecursion (IsAtom n) atoms
 full_within n [] h = tt
 full_within n (a ∷ atoms) h = (h.0.within, full_within n atoms h.1)
 
-flat_within : (n : ℕ) (cases : List (List Atom)) → AllCases (IsFullAtom n) cases → AllAtoms (IsAtom n) (flat_map (λ case. case) cases)
+flat_within : (n : ℕ) (cases : List (List Atom)) → AllCases (IsFullAtom n) cases → AllByRecursion (IsAtom n) (flat_map (λ case. case) cases)
 flat_within n [] h = tt
-flat_within n (case ∷ cases) h = all_both (IsAtom n) case (flat_map (λ case. case) cases) (full_within n case h.0) (flat_within n cases h.1)
+flat_within n (case ∷ cases) h = each-++ (IsAtom n) case (flat_map (λ case. case) cases) (full_within n case h.0) (flat_within n cases h.1)
 
 -- ---- one side
 module _ (i : Input) (p : Proc) (s : System) (program : IsProgram p) (size : size_fault p ≡ None) (folded : IsFolded (system_of p) s) where
@@ -121,7 +121,7 @@ module _ (i : Input) (p : Proc) (s : System) (program : IsProgram p) (size : siz
   pub side_params : s.params ≡ p.params
   side_params = ap (λ (y : System). y.params) folded.is
 
-  pub side_kind : rows.size_fault (candidates_for i p) ≡ None → AllAtoms (IsAtom p.params) (flat_map (λ case. case) i.cases) → AreCandidates s.vars (candidates_for i p)
+  pub side_kind : rows.size_fault (candidates_for i p) ≡ None → AllByRecursion (IsAtom p.params) (flat_map (λ case. case) i.cases) → AreCandidates s.vars (candidates_for i p)
   side_kind e w =
       subst (λ n. AreCandidates n (candidates_for i p)) (sym (ap (λ (y : System). y.vars) folded.is))
       (are_kind (system_of p) (flat_map (λ case. case) i.cases) i.settings.pairs (shape.shaped p program size) w e)
@@ -142,7 +142,7 @@ module _ (i : Input) (p : Proc) (s : System) (program : IsProgram p) (size : siz
     made_side = record {
       system = side_system;
       one_each = ap length made.part.families ∙ is_part.printed.one_each;
-      full = subst (AllByRecursion (AllAtoms (IsFullAtom s.vars))) printed_is
+      full = subst (AllByRecursion (AllByRecursion (IsFullAtom s.vars))) printed_is
           (printed_are_atoms (graph_of s) (candidates_for i p) part.family part.printed part.questions kind is_part.printed);
       inductive = subst (λ fs. IsInductive (graph_of s) i.cases (family_of fs)) printed_is inductive;
       right = subst (λ fs. AreLive (graph_of s) fs part.edges_live) printed_is is_part.edges_live;

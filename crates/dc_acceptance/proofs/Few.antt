@@ -4,6 +4,7 @@ use Rattle.std.specs.List.{AllByRecursion, range_with_len}
 use Rattle.std.proofs.Common.{refl, ap, arith, length-append}
 use Rattle.std.proofs.lemmas.List.{length-map}
 use Rattle.std.proofs.lemmas.List.FromFn.{length-range_with_len}
+use Rattle.dc_math.specs.Members.{at_each}
 use Rattle.dc_affine.specs.declared.atom.Atom.{Atom}
 use Rattle.dc_rows.specs.declared.kinds.Candidates.{Candidates}
 use Rattle.dc_families.specs.Graphs.{Graph}
@@ -17,10 +18,6 @@ filter_short p (x ∷ xs) = by (p x) (filter_short p xs)
     by : (b : Bool) → length (filter p xs) ≤ length xs → length (cond b (x ∷ filter p xs) (filter p xs)) ≤ suc (length xs)
     by true h = omega arith
     by false h = omega arith
-
-each_place : (Q : List Atom → Type 0) (lists : List (List Atom)) → ((l : ℕ) → l < length lists → Q (slice_index_or lists l [])) → AllByRecursion Q lists
-each_place Q [] h = tt
-each_place Q (x ∷ lists) h = (h zero (omega arith), each_place Q lists (λ l i. h (suc l) (omega arith)))
 
 module _ (c : Candidates) (J : Family) (l : ℕ) where
   left_few : {rows back left : List ℕ} {asked : List Question} → Pruned c J l rows back asked left → length left ≤ length rows + length back
@@ -49,5 +46,5 @@ module _ (c : Candidates) (J : Family) (l : ℕ) where
 pub few_printed : (s : Graph) (c : Candidates) (J : Family) (printed : List (List Atom)) (asked : List (List Question))
     → length c.rows ≤ 1024 → ArePrinted s c J printed asked → AllByRecursion (λ atoms. length atoms ≤ 1024) printed
 few_printed s c J printed asked few h =
-    each_place (λ atoms. length atoms ≤ 1024) printed
+    at_each (λ atoms. length atoms ≤ 1024) printed []
     (λ l i. printed_few c J l s.vars 1024 (slice_index_or printed l []) (slice_index_or asked l []) (omega arith) few (h.each l (let e = h.one_each in omega arith)))

@@ -2,8 +2,9 @@
 use Rattle.std.specs.Prelude.{◌≡◌, ℕ, suc, ◌+◌, ◌-◌, ◌≤◌, Bool, true, false, cond, List, [], ◌∷◌, length}
 use Rattle.std.specs.List.{AllByRecursion}
 use Rattle.std.proofs.Common.{refl, sym, ◌∙◌, ap, arith, length-append}
+use Rattle.dc_math.specs.Members.{each_at_or}
 use Rattle.dc_affine.specs.declared.atom.Atom.{Atom}
-use Rattle.dc_affine.specs.Atoms.{IsAtom, IsFullAtom, AllAtoms}
+use Rattle.dc_affine.specs.Atoms.{IsAtom, IsFullAtom}
 use Rattle.dc_program.specs.Programs.{AllShort}
 use Rattle.dc_system.specs.declared.edges.Edge.{Edge}
 use Rattle.dc_system.specs.declared.edges.System.{System}
@@ -19,7 +20,6 @@ use Rattle.dc_families.specs.Moves.{at_start, form_after}
 use Rattle.dc_invariant.specs.Keeps.{AreEntryKeeps, AreEdgeParts}
 use Rattle.dc_session.specs.Made.{AreCaseLines}
 use Rattle.dc_clauses.specs.Sides.{atoms_at, edge_atoms, exit_atoms, edge_places}
-use Rattle.dc_clauses.proofs.Shaped.{each_or}
 use Rattle.dc_acceptance.proofs.Sides.{IsMadeSide, lines_many, edges_many}
 use Rattle.dc_acceptance.proofs.Vectors.{line_shown, keeps_shown}
 
@@ -41,15 +41,15 @@ module _ (budget : ℕ) (s : System) (cases : List (List Atom)) (live flags : Li
     (few : AreFew x.families) (short : AllShort 130 cases) where
   -- ---- atoms
   some_few : (l : ℕ) → length (atoms_at x l) ≤ 1024
-  some_few l = each_or (λ (atoms : List Atom). length atoms ≤ 1024) x.families l [] few (omega arith)
+  some_few l = each_at_or (λ (atoms : List Atom). length atoms ≤ 1024) x.families l [] few (omega arith)
 
-  ten_places : (atoms : List Atom) → AllAtoms (IsFullAtom s.vars) atoms → AllByRecursion (IsAtom 10) atoms
+  ten_places : (atoms : List Atom) → AllByRecursion (IsFullAtom s.vars) atoms → AllByRecursion (IsAtom 10) atoms
   ten_places [] k = tt
   ten_places (a ∷ atoms) k =
       let w = k.0.within in
       (record { few = (let v = h.system.few_vars in let f = w.few in omega arith); coefs_within = w.coefs_within; constant_within = w.constant_within }, ten_places atoms k.1)
 
-  are_atoms : (fs : List (List Atom)) → AllByRecursion (AllAtoms (IsFullAtom s.vars)) fs → AreFew fs → AllByRecursion AreAtoms fs
+  are_atoms : (fs : List (List Atom)) → AllByRecursion (AllByRecursion (IsFullAtom s.vars)) fs → AreFew fs → AllByRecursion AreAtoms fs
   are_atoms [] k f = tt
   are_atoms (atoms ∷ fs) k f = (record { few = f.0; each = ten_places atoms k.0 }, are_atoms fs k.1 f.1)
 

@@ -4,9 +4,9 @@ use Rattle.std.specs.List.{AllByRecursion, list_all}
 use Rattle.std.proofs.Common.{refl, sym, ◌∙◌, ap, subst, arith}
 use Rattle.std.proofs.lemmas.Bool.{eq-eqb, and_from}
 use Rattle.std.proofs.lemmas.List.{get_or-take}
-use Rattle.dc_math.specs.Members.{Among, head, tail}
+use Rattle.dc_math.specs.Members.{Among, head, tail, each_left, each_right, each_among}
 use Rattle.dc_affine.specs.declared.atom.Atom.{Atom}
-use Rattle.dc_affine.specs.Atoms.{IsFullAtom, AllAtoms}
+use Rattle.dc_affine.specs.Atoms.{IsFullAtom}
 use Rattle.dc_system.specs.declared.edges.Edge.{Edge}
 use Rattle.dc_system.specs.declared.edges.System.{System}
 use Rattle.dc_system.specs.Shapes.{IsWellFormed}
@@ -23,7 +23,7 @@ use Rattle.dc_families.specs.Graphs.{Graph, graph_of}
 use Rattle.dc_families.specs.Families.{family_of}
 use Rattle.dc_families.specs.Moves.{at_start, form_after}
 use Rattle.dc_families.specs.Rounds.{IsInductive}
-use Rattle.dc_families.proofs.Lists.{differ, each_atom, all_left, all_right}
+use Rattle.dc_families.proofs.Lists.{differ}
 use Rattle.dc_families.proofs.Tests.{has_among, among_has}
 use Rattle.dc_invariant.specs.Keeps.{AreEntryKeeps, AreEdgeParts, IsSidePart}
 use Rattle.dc_session.specs.Made.{AreCaseLines}
@@ -36,7 +36,7 @@ use Rattle.dc_acceptance.proofs.Lines.{line_passes, line_ranges, keep_passes, ke
 pub record IsMadeSide (budget : ℕ) (s : System) (cases : List (List Atom)) (live flags : List Bool) (when : List Liveness) (x : SideCert) : Type 0 where
   pub system : IsWellFormed s
   pub one_each : length x.families ≡ s.locs
-  pub full : AllByRecursion (AllAtoms (IsFullAtom s.vars)) x.families
+  pub full : AllByRecursion (AllByRecursion (IsFullAtom s.vars)) x.families
   pub inductive : IsInductive (graph_of s) cases (family_of x.families)
   pub right : AreFlags flags (map (edge_atoms x) s.edges)
   pub lines : AreCaseLines s.params budget cases live when
@@ -95,11 +95,11 @@ module _ (budget : ℕ) (s : System) (cases : List (List Atom)) (live flags : Li
   g = graph_of s
 
   -- ---- the shape
-  full_one : (atoms : List Atom) → AllAtoms (IsFullAtom s.vars) atoms → is_full s atoms ≡ true
+  full_one : (atoms : List Atom) → AllByRecursion (IsFullAtom s.vars) atoms → is_full s atoms ≡ true
   full_one [] k = refl
   full_one (a ∷ atoms) k = and_from (eqb (length a.coefs) s.vars) (is_full s atoms) (eq-eqb (length a.coefs) s.vars k.0.one_each) (full_one atoms k.1)
 
-  full_each : (fs : List (List Atom)) → AllByRecursion (AllAtoms (IsFullAtom s.vars)) fs → list_all (is_full s) fs ≡ true
+  full_each : (fs : List (List Atom)) → AllByRecursion (AllByRecursion (IsFullAtom s.vars)) fs → list_all (is_full s) fs ≡ true
   full_each [] k = refl
   full_each (atoms ∷ fs) k = and_from (is_full s atoms) (list_all (is_full s) fs) (full_one atoms k.0) (full_each fs k.1)
 
@@ -183,8 +183,8 @@ module _ (budget : ℕ) (s : System) (cases : List (List Atom)) (live flags : Li
       given : (p : Point) → MeetsAll p (edge_atoms x e) → is_affine_after e a.coefs ≡ true
       given p q =
           ((h.inductive e.to a (among_has a (atoms_at x e.to) k)).edges e m refl p
-          (record { each = λ b i. each_atom (MeetsAt p) b (atoms_at x e.from) (all_left (MeetsAt p) (atoms_at x e.from) e.guard q) (has_among (atoms_at x e.from) b i) })
-          (all_right (MeetsAt p) (atoms_at x e.from) e.guard q)).0
+          (record { each = λ b i. each_among (MeetsAt p) (each_left (MeetsAt p) (atoms_at x e.from) e.guard q) (has_among (atoms_at x e.from) b i) })
+          (each_right (MeetsAt p) (atoms_at x e.from) e.guard q)).0
 
       by : (b : Bool) → is_affine_after e a.coefs ≡ b → is_affine_after e a.coefs ≡ true
       by true q = q

@@ -1,5 +1,6 @@
 -- The atoms of facts: their order, what they say, and that they are within their sizes.
 use Rattle.std.specs.Prelude.{◌≡◌, ℕ, ◌≤◌, Bool, true, false, not, ◌&&◌, ◌||◌, ltb, if◌then◌else◌, List, [], ◌∷◌, ◌++◌, map, length, ℤ, pos, neg_ℤ, ◌+ℤ◌, ◌-ℤ◌, int_le, unsigned_abs, Some, None, refl}
+use Rattle.std.specs.List.{AllByRecursion}
 use Rattle.std.specs.declared.option.Option.{Option}
 use Rattle.std.specs.Option.{option_or}
 use Rattle.std.proofs.Common.{sym, ◌∙◌, ap, ap₂, subst, arith, ltb-false}
@@ -30,7 +31,7 @@ use Rattle.dc_affine.specs.declared.form.FormFault.TheVariants.{NotAffine, Coeff
 use Rattle.dc_poly.specs.NormalForm.{most, coefs_fit}
 use Rattle.dc_affine.specs.Forms.{formed, is_below, below_step, fault_of}
 use Rattle.dc_affine.specs.Table.{Fact, fact, fact_true, all_of, some_of, after, crossed, falsity, relation, opposite, facts_of, facts_step}
-use Rattle.dc_affine.specs.Atoms.{holds_at, all_hold, some_hold, AllFit, IsFullAtom, AllAtoms, AllCases, gap_of, at_least, atom_of, conjunctions_of, gap_fault, comparison_step, comparison_fault, cond_below_step, cond_is_below}
+use Rattle.dc_affine.specs.Atoms.{holds_at, all_hold, some_hold, AllFit, IsFullAtom, AllCases, gap_of, at_least, atom_of, conjunctions_of, gap_fault, comparison_step, comparison_fault, cond_below_step, cond_is_below}
 use Rattle.dc_affine.specs.Gaps.{signed_coef, gap_atom, gap_cases, combined}
 use Rattle.dc_affine.specs.Laws.{told}
 use Rattle.dc_affine.proofs.FormLaws.{form_value, form_proper, formed-Num, and_both}
@@ -287,7 +288,7 @@ atom_full n f h =
     less : (x : ℤ) (k : ℕ) → unsigned_abs x ≤ most → k ≤ 1 → unsigned_abs (x -ℤ pos k) ≤ 2147483648
     less x k h l = omega (arith, ints)
 
-all_full : (n : ℕ) (fs : List Fact) → AllFlat n fs → AllAtoms (IsFullAtom n) (map (atom_of n) fs)
+all_full : (n : ℕ) (fs : List Fact) → AllFlat n fs → AllByRecursion (IsFullAtom n) (map (atom_of n) fs)
 all_full n [] h = tt
 all_full n (f ∷ fs) h = (atom_full n f h.0, all_full n fs h.1)
 

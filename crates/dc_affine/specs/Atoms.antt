@@ -1,5 +1,6 @@
 -- Affine atoms, the conjunctions of a condition as atoms, and the first fault of a condition.
 use Rattle.std.specs.Prelude.{◌≡◌, ℕ, ◌≤◌, Bool, true, false, ◌&&◌, ◌||◌, ltb, if◌then◌else◌, List, [], ◌∷◌, map, length, ℤ, pos, ◌+ℤ◌, ◌*ℤ◌, ◌-ℤ◌, int_le, unsigned_abs, Some, None}
+use Rattle.std.specs.List.{AllByRecursion}
 use Rattle.std.specs.declared.option.Option.{Option}
 use Rattle.std.specs.declared.vec.Vec.{Vec}
 use Rattle.std.specs.declared.alloc.Global.{Global}
@@ -60,13 +61,8 @@ pub record IsFullAtom (n : ℕ) (a : Atom) : Type 0 where
   pub one_each : length a.coefs ≡ n
   pub within : IsAtom n a
 
-abbrev pub AllAtoms : (Atom → Type 0) → List Atom → Type 0
-AllAtoms P [] = Unit {0}
-AllAtoms P (a ∷ rest) = P a × AllAtoms P rest
-
 abbrev pub AllCases : (Atom → Type 0) → List (List Atom) → Type 0
-AllCases P [] = Unit {0}
-AllCases P (c ∷ cs) = AllAtoms P c × AllCases P cs
+AllCases P = AllByRecursion (AllByRecursion P)
 
 -- ---- the conjunctions of a condition
 -- the difference of the sides of a comparison

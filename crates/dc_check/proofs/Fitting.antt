@@ -5,7 +5,7 @@ use Rattle.std.proofs.Common.{◌∙◌, subst, arith}
 use Rattle.std.proofs.lemmas.List.{length-map}
 use Rattle.std.proofs.lemmas.Bool.{and_parts}
 use Rattle.dc_affine.specs.declared.atom.Atom.{Atom}
-use Rattle.dc_affine.specs.Atoms.{AllAtoms, AllCases, IsAtom, IsFullAtom}
+use Rattle.dc_affine.specs.Atoms.{AllCases, IsAtom, IsFullAtom}
 use Rattle.dc_program.specs.Programs.{AllShort, IsCondition}
 use Rattle.dc_system.specs.declared.edges.System.{System}
 use Rattle.dc_system.specs.Shapes.{IsWellFormed}
@@ -23,7 +23,7 @@ use Rattle.dc_check.proofs.Inductions.{full_atoms, same_count}
 use Rattle.dc_check.proofs.Holding.{HoldsBoth, holds_both, shaped}
 
 -- ---- cases
-within : (n : ℕ) (atoms : List Atom) → AllAtoms (IsFullAtom n) atoms → AllAtoms (IsAtom n) atoms
+within : (n : ℕ) (atoms : List Atom) → AllByRecursion (IsFullAtom n) atoms → AllByRecursion (IsAtom n) atoms
 within n [] h = tt
 within n (a ∷ atoms) h = (h.0.within, within n atoms h.1)
 

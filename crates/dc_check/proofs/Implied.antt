@@ -1,8 +1,9 @@
 -- What the lines of a certificate imply at points.
 use Rattle.std.specs.Prelude.{◌≡◌, ℕ, ◌≤◌, true, false, List, [], ◌∷◌, ◌++◌, take, length, ℤ, pos, Some}
+use Rattle.std.specs.List.{AllByRecursion}
 use Rattle.std.proofs.Common.{refl, sym, subst, arith, get_or-take, length-take}
 use Rattle.dc_affine.specs.declared.atom.Atom.{Atom}
-use Rattle.dc_affine.specs.Atoms.{IsAtom, AllAtoms}
+use Rattle.dc_affine.specs.Atoms.{IsAtom}
 use Rattle.dc_lp.specs.Linear.{Linear, IsSolution, IsRefutation}
 use Rattle.dc_system.specs.declared.edges.Edge.{Edge}
 use Rattle.dc_system.specs.Shapes.{IsEdge}
@@ -39,14 +40,14 @@ line_flag hyps n (Dead v) o e = dead_flag hyps ((dead_are_shown hyps n o).1 (at 
 line_flag hyps n (Live y) o e = (let p = live_are_named hyps n (at y) o (live_shows hyps n y e) in live_flag hyps (λ d. d p.0 p.2))
 
 -- ---- the atoms along an edge, whose guard has a place for a chosen value
-module _ (n : ℕ) (e : Edge) (atoms : List Atom) (h : IsEdge n e) (w : AllAtoms (IsAtom n) atoms) where
+module _ (n : ℕ) (e : Edge) (atoms : List Atom) (h : IsEdge n e) (w : AllByRecursion (IsAtom n) atoms) where
   abbrev places : ℕ
   places = edge_places n e
 
   abbrev cut : List Atom
   cut = with_guard places atoms e
 
-  over-of : (m : ℕ) (xs : List Atom) → AllAtoms (IsAtom m) xs → AreOver m xs
+  over-of : (m : ℕ) (xs : List Atom) → AllByRecursion (IsAtom m) xs → AreOver m xs
   over-of m [] g = tt
   over-of m (x ∷ xs) g = (g.0.few, over-of m xs g.1)
 

@@ -3,10 +3,10 @@ use Rattle.std.specs.Prelude.{◌≡◌, ℕ, zero, suc, ◌<◌, ◌≤◌, Boo
 use Rattle.std.specs.List.{AllByRecursion, list_all}
 use Rattle.std.proofs.Common.{refl, sym, ◌∙◌, ap, ap₂, subst, arith, get_or}
 use Rattle.std.proofs.lemmas.Bool.{and_parts, and_from, eqb-true, leb-true, leb-false}
-use Rattle.dc_math.specs.Members.{Among, head, tail, among_at}
+use Rattle.dc_math.specs.Members.{Among, head, tail, each-++, each_is, each_among, among_each, among_at}
 use Rattle.dc_syntax.specs.Value.{State}
 use Rattle.dc_affine.specs.declared.atom.Atom.{Atom}
-use Rattle.dc_affine.specs.Atoms.{IsAtom, AllAtoms, Allowed, holds_at, all_hold}
+use Rattle.dc_affine.specs.Atoms.{IsAtom, Allowed, holds_at, all_hold}
 use Rattle.dc_system.specs.declared.edges.Edge.{Edge}
 use Rattle.dc_system.specs.declared.edges.System.{System}
 use Rattle.dc_system.specs.Shapes.{IsWellFormed}
@@ -24,7 +24,6 @@ use Rattle.dc_families.specs.Graphs.{graph_of}
 use Rattle.dc_families.specs.Families.{family_of}
 use Rattle.dc_families.specs.Moves.{at_start}
 use Rattle.dc_families.specs.Rounds.{MeetsFamily, CasesGive, EdgeGives, IsInductive, IsOver}
-use Rattle.dc_families.proofs.Lists.{all_atoms, each_atom, all_both}
 use Rattle.dc_families.proofs.Tests.{has_among, among_has}
 use Rattle.dc_families.proofs.Reached.{reached_meet}
 use Rattle.dc_families.proofs.Folds.{systems_are_graphs}
@@ -33,7 +32,7 @@ use Rattle.dc_clauses.specs.Steps.{Test}
 use Rattle.dc_clauses.specs.Lines.{line_in_range, line_parts}
 use Rattle.dc_clauses.specs.Sides.{paired, atoms_at, edge_atoms, edge_places, exit_atoms, is_full, has_keeps, case_range, entry_fits, numbered_case, case_test, case_tests, entry_test, entry_tests, edge_test, edge_tests, keep_test, keep_tests, exit_test}
 use Rattle.dc_clauses.specs.Lent.{IsCase, IsShaped, IsEdgePart}
-use Rattle.dc_clauses.proofs.Shaped.{each_one, test_or, location_atoms, edge_part}
+use Rattle.dc_clauses.proofs.Shaped.{test_or, location_atoms, edge_part}
 use Rattle.dc_check.proofs.Shown.{one_true, keep_shows}
 use Rattle.dc_check.proofs.Implied.{line_flag, edge_flag, keep_gives, entry_gives}
 use Rattle.dc_check.proofs.Tested.{AreTrue, pair_true, list_true, numbered_true}
@@ -68,13 +67,13 @@ map_same [] = refl
 map_same (x ∷ xs) = ap (λ ys. x ∷ ys) (map_same xs)
 
 -- ---- atoms of one coefficient for each variable
-pub full_atoms : (n : ℕ) (atoms : List Atom) → list_all (λ (a : Atom). eqb (length a.coefs) n) atoms ≡ true → AllByRecursion (IsAtom 10) atoms → AllAtoms (IsAtom n) atoms
+pub full_atoms : (n : ℕ) (atoms : List Atom) → list_all (λ (a : Atom). eqb (length a.coefs) n) atoms ≡ true → AllByRecursion (IsAtom 10) atoms → AllByRecursion (IsAtom n) atoms
 full_atoms n [] h g = tt
 full_atoms n (a ∷ atoms) h g =
     let b = and_parts (eqb (length a.coefs) n) (list_all (λ (a : Atom). eqb (length a.coefs) n) atoms) h in
     (record { few = (let e = eqb-true (length a.coefs) n b.0 in omega arith); coefs_within = g.0.coefs_within; constant_within = g.0.constant_within }, full_atoms n atoms b.1 g.1)
 
-pub over_atoms : (n : ℕ) (atoms : List Atom) → AllAtoms (IsAtom n) atoms → AreOver n atoms
+pub over_atoms : (n : ℕ) (atoms : List Atom) → AllByRecursion (IsAtom n) atoms → AreOver n atoms
 over_atoms n [] h = tt
 over_atoms n (a ∷ atoms) h = (h.0.few, over_atoms n atoms h.1)
 
@@ -96,7 +95,7 @@ entry_at atoms cases (u ∷ ws) (js ∷ kss) (suc i) w ks h l g e q =
 
 -- ---- one program
 module _ (s : System) (cases : List (List Atom)) (when : List Liveness) (x : SideCert) (wf : IsWellFormed s) (h : IsShaped s x) where
-  pub location_full : (l : ℕ) → AllAtoms (IsAtom s.vars) (atoms_at x l)
+  pub location_full : (l : ℕ) → AllByRecursion (IsAtom s.vars) (atoms_at x l)
   location_full l = full_atoms s.vars (atoms_at x l) (test_or (is_full s) x.families l [] h.full refl) (location_atoms s x l h.part).each
 
   -- ---- edges
@@ -111,7 +110,7 @@ module _ (s : System) (cases : List (List Atom)) (when : List Liveness) (x : Sid
     edges_are_flags = are_flags (λ (c : EdgeCert). is_live c.live) (edge_atoms x) s.edges x.edges h.one_each edge_is_flag
 
     meets_atoms : (l : ℕ) (p : Point) → MeetsFamily (family_of x.families) l p → MeetsAll p (atoms_at x l)
-    meets_atoms l p m = all_atoms (MeetsAt p) (atoms_at x l) (λ a r. m.each a (among_has a (atoms_at x l) r))
+    meets_atoms l p m = among_each (MeetsAt p) (atoms_at x l) (λ a r. m.each a (among_has a (atoms_at x l) r))
 
     pub edge_gives : AreTrue (keep_tests s x) → (k : ℕ) (e : Edge) (c : EdgeCert) (a : Atom) (p : Point) → k < length s.edges → e ≡ get_or s.edges k e → c ≡ get_or x.edges k c → Among a (atoms_at x e.to)
         → MeetsAll p (edge_atoms x e) → (is_affine_after e a.coefs ≡ true) × MeetsAt p (atom_after s.vars e a)
@@ -152,7 +151,7 @@ module _ (s : System) (cases : List (List Atom)) (when : List Liveness) (x : Sid
         let o = among_at e e s.edges m in
         let i : o.0 < length x.edges = (let y : o.0 < length s.edges = o.1 in let z = h.one_each in omega arith) in
         let c = picked x.edges o.0 i in
-        edge_gives keeps o.0 e c.0 a p o.1 (sym o.2) c.1 n (all_both (MeetsAt p) (atoms_at x e.from) e.guard (meets_atoms e.from p mf) mg)
+        edge_gives keeps o.0 e c.0 a p o.1 (sym o.2) c.1 n (each-++ (MeetsAt p) (atoms_at x e.from) e.guard (meets_atoms e.from p mf) mg)
 
   -- ---- the cases
   module _ (lines : AreTrue (case_tests s.params cases when)) where
@@ -192,7 +191,7 @@ module _ (s : System) (cases : List (List Atom)) (when : List Liveness) (x : Sid
       pub case_is_flag : (k : ℕ) (case : List Atom) (w : Liveness) → k < length cases → case ≡ get_or cases k case → w ≡ get_or when k w → IsFlag (is_live w) case
       case_is_flag k case w l q r =
           let t : case_test s.params (Some case) (Some w) ≡ Some true = ap₂ (case_test s.params) (sym (of_option cases k case l q)) (sym (of_option when k w (has_line k l) r)) ∙ tested k (omega arith) in
-          line_flag case s.params w (over_atoms s.params case (each_one (IsCase s.params) cases k case ok l q).within) (one_true (Some (line_in_range (length case) s.params w)) (line_parts case s.params w) t).1
+          line_flag case s.params w (over_atoms s.params case (each_is (IsCase s.params) cases k case ok l q).within) (one_true (Some (line_in_range (length case) s.params w)) (line_parts case s.params w) t).1
 
       pub cases_are_flags : AreFlags (map is_live when) cases
       cases_are_flags = subst (λ xs. AreFlags (map is_live when) xs) (map_same cases) (are_flags is_live (λ (case : List Atom). case) cases when same_count case_is_flag)
@@ -218,7 +217,7 @@ module _ (s : System) (cases : List (List Atom)) (when : List Liveness) (x : Sid
                 let i : o.0 < length ks = (let y : o.0 < length (atoms_at x 0) = o.1 in omega arith) in
                 let v = picked ks o.0 i in
                 let t : entry_test s case a v.0 ≡ Some true = ap₂ (entry_test s case) (sym o.2) v.1 ∙ pair_true (entry_test s case) (atoms_at x 0) ks o.0 a v.0 all o.1 i in
-                entry_gives case s.params a v.0 (over_atoms s.params case (each_one (IsCase s.params) cases k case ok l q).within) t
+                entry_gives case s.params a v.0 (over_atoms s.params case (each_is (IsCase s.params) cases k case ok l q).within) t
             by false z = λ p g. absurd (flag-false (is_live w) case (case_is_flag k case w l q r) z p g)
 
         pub cases_give : (a : Atom) → Among a (atoms_at x 0) → CasesGive (graph_of s) cases a
@@ -238,7 +237,7 @@ module _ (s : System) (cases : List (List Atom)) (when : List Liveness) (x : Sid
         }
 
   pub over : IsOver s.vars (family_of x.families)
-  over l a j = each_atom (λ b. length b.coefs ≤ s.vars) a (atoms_at x l) (over_atoms s.vars (atoms_at x l) (location_full l)) (has_among (atoms_at x l) a j)
+  over l a j = each_among (λ b. length b.coefs ≤ s.vars) (over_atoms s.vars (atoms_at x l) (location_full l)) (has_among (atoms_at x l) a j)
 
   pub exit_is_flag : exit_test s x ≡ Some true → IsFlag (is_live x.exit_line) (exit_atoms s x)
   exit_is_flag t = line_flag (exit_atoms s x) s.vars x.exit_line (over_atoms s.vars (exit_atoms s x) (location_full (s.locs - 1))) t

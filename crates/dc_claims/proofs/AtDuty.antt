@@ -1,6 +1,6 @@
 -- Both sides of a duty's identity, as one combination of polynomials.
 use Rattle.std.specs.Prelude.{◌≡◌, ℕ, ◌+◌, List, [], ◌∷◌, ◌++◌, map, length, slice_index_or, ℤ, pos}
-use Rattle.std.specs.List.{range_with_len}
+use Rattle.std.specs.List.{range_with_len, AllByRecursion}
 use Rattle.std.proofs.Common.{refl, sym, ◌∙◌, ap, ap₂, subst, arith}
 use Rattle.std.proofs.lemmas.List.{length-map, get_or-map}
 use Rattle.dc_math.specs.Rational.{ℚ, ◌+ℚ◌, ◌-ℚ◌, ◌*ℚ◌, neg_ℚ, of_ℤ}
@@ -8,7 +8,7 @@ use Rattle.dc_math.specs.RationalRing.{ring, reads, read_nat, same_form}
 use Rattle.dc_math.specs.Vectors.{dot}
 use Rattle.dc_lp.specs.Tables.{made}
 use Rattle.dc_poly.specs.Terms.{TermList, value, Polynomial, polynomial}
-use Rattle.dc_affine.specs.Atoms.{IsAtom, AllAtoms}
+use Rattle.dc_affine.specs.Atoms.{IsAtom}
 use Rattle.dc_handelman.specs.Choices.{Choice, choices_of}
 use Rattle.dc_handelman.specs.Products.{product_at, choice_value}
 use Rattle.dc_handelman.proofs.Values.{have_values}
@@ -77,7 +77,7 @@ module _ (p : Pair) (d k : ℕ) (t : ℚ) (φ χ : Potential) (multipliers : Mul
       (λ i l. ap (λ j. (product_number p k o j).terms) (let e : 0 + i ≡ i = omega arith in e)))
 
   -- the values of the products
-  products_total : (o : Duty) (x : List ℤ) (n : ℕ) → n ≡ products_count p k o → AllAtoms (IsAtom (places_of p o)) (atoms_of p o)
+  products_total : (o : Duty) (x : List ℤ) (n : ℕ) → n ≡ products_count p k o → AllByRecursion (IsAtom (places_of p o)) (atoms_of p o)
       → total (λ i. multipliers o i *ℚ of_ℤ (value (product_number p k o i).terms x)) (range_with_len 0 n) ≡ dot (made (products_count p k o) (multipliers o)) (product_values p k o x)
   products_total o x n e h =
       subst (λ n. total (λ i. multipliers o i *ℚ of_ℤ (value (product_number p k o i).terms x)) (range_with_len 0 n) ≡ dot (made (length cs) (multipliers o)) (product_values p k o x)) (sym e)
@@ -95,6 +95,6 @@ module _ (p : Pair) (d k : ℕ) (t : ℚ) (φ χ : Potential) (multipliers : Mul
   count_is o = length-map (choices_of (length (atoms_of p o)) k) (product_at (places_of p o) (atoms_of p o))
 
   -- the value of the combination is the difference of the sides
-  pub difference_value : (o : Duty) (x : List ℤ) → AreLocations p d k t φ χ o → AllAtoms (IsAtom (places_of p o)) (atoms_of p o) → length x ≡ places_of p o
+  pub difference_value : (o : Duty) (x : List ℤ) → AreLocations p d k t φ χ o → AllByRecursion (IsAtom (places_of p o)) (atoms_of p o) → length x ≡ places_of p o
       → value_of (difference o) x ≡ left_value p d t φ χ o x -ℚ dot (made (products_count p k o) (multipliers o)) (product_values p k o x)
   difference_value o x h a l = difference_is (λ q. value q x) o ∙ ap₂ ◌-ℚ◌ (left_is p d k t φ χ o x h l) (products_total o x (length (products_at p k o)) (count_is o) a)

@@ -20,7 +20,7 @@ use Rattle.dc_syntax.specs.declared.tree.Side.TheVariants.{New, Old}
 use Rattle.dc_syntax.specs.Value.{State}
 use Rattle.dc_poly.specs.Terms.{Exponents, mono_value, power}
 use Rattle.dc_affine.specs.declared.atom.Atom.{Atom}
-use Rattle.dc_affine.specs.Atoms.{atom_value, holds_at, all_hold, some_hold, AllAtoms, IsAtom}
+use Rattle.dc_affine.specs.Atoms.{atom_value, holds_at, all_hold, some_hold, IsAtom}
 use Rattle.dc_system.specs.declared.edges.Edge.{Edge}
 use Rattle.dc_system.specs.Paths.{at, Step, Path, here, along}
 use Rattle.dc_handelman.specs.Choices.{Choice, choices_of}
@@ -151,7 +151,7 @@ module _ (p : Pair) (d k : ℕ) (t : ℚ) (φ χ : Potential) (multipliers : Mul
         each_within n [] h = tt
         each_within n (m ∷ ms) h = ((let e = h.0.places in omega arith), each_within n ms h.1)
 
-    narrow : (side : Side) (l : ℕ) → AllAtoms (IsAtom (system_of p side).vars) (atoms_at p side l)
+    narrow : (side : Side) (l : ℕ) → AllByRecursion (IsAtom (system_of p side).vars) (atoms_at p side l)
     narrow New l = atoms_in _ l p.new_atoms pair.new.each
     narrow Old l = atoms_in _ l p.old_atoms pair.old.each
 
@@ -159,7 +159,7 @@ module _ (p : Pair) (d k : ℕ) (t : ℚ) (φ χ : Potential) (multipliers : Mul
     formed New = pair.new.system
     formed Old = pair.old.system
 
-    widened : (n : ℕ) (gs : List Atom) (x : State) (z : ℤ) → AllAtoms (IsAtom n) gs → length x ≡ n → all_hold gs x ≡ true → all_hold gs (at x z) ≡ true
+    widened : (n : ℕ) (gs : List Atom) (x : State) (z : ℤ) → AllByRecursion (IsAtom n) gs → length x ≡ n → all_hold gs x ≡ true → all_hold gs (at x z) ≡ true
     widened n [] x z w l h = refl
     widened n (a ∷ gs) x z w l h =
         let b = and_both (holds_at a x) (all_hold gs x) h in

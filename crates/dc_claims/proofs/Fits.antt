@@ -12,7 +12,7 @@ use Rattle.dc_poly.specs.Terms.{Exponents, TermList, Places, term, Polynomial, p
 use Rattle.dc_poly.specs.Sums.{plus, negated}
 use Rattle.dc_poly.proofs.Padded.{AllPadded, Places-plus, Places-negated, Places-constant, Places-composed}
 use Rattle.dc_affine.specs.declared.atom.Atom.{Atom}
-use Rattle.dc_affine.specs.Atoms.{IsAtom, AllAtoms}
+use Rattle.dc_affine.specs.Atoms.{IsAtom}
 use Rattle.dc_system.specs.declared.edges.Edge.{Edge}
 use Rattle.dc_system.specs.Shapes.{IsForm, IsEdge, IsWithin, IsWellFormed}
 use Rattle.dc_handelman.proofs.Values.{all_products}
@@ -33,20 +33,20 @@ use Rattle.dc_claims.proofs.PartValues.{AreLocations}
 use Rattle.dc_claims.proofs.AtDuty.{unknown_parts, rest_part, product_parts, difference}
 
 -- ---- atoms
-wider : (n : ℕ) (gs : List Atom) → AllAtoms (IsAtom n) gs → AllAtoms (IsAtom (n + 1)) gs
+wider : (n : ℕ) (gs : List Atom) → AllByRecursion (IsAtom n) gs → AllByRecursion (IsAtom (n + 1)) gs
 wider n [] h = tt
 wider n (a ∷ gs) h = (record { few = (let l = h.0.few in omega arith); coefs_within = h.0.coefs_within; constant_within = h.0.constant_within }, wider n gs h.1)
 
-atoms-++ : (n : ℕ) (gs hs : List Atom) → AllAtoms (IsAtom n) gs → AllAtoms (IsAtom n) hs → AllAtoms (IsAtom n) (gs ++ hs)
+atoms-++ : (n : ℕ) (gs hs : List Atom) → AllByRecursion (IsAtom n) gs → AllByRecursion (IsAtom n) hs → AllByRecursion (IsAtom n) (gs ++ hs)
 atoms-++ n [] hs h k = k
 atoms-++ n (a ∷ gs) hs h k = (h.0, atoms-++ n gs hs h.1 k)
 
-pub atoms_in : (n l : ℕ) (xs : List (List Atom)) → AllByRecursion (AreAtoms n) xs → AllAtoms (IsAtom n) (slice_index_or xs l [])
+pub atoms_in : (n l : ℕ) (xs : List (List Atom)) → AllByRecursion (AreAtoms n) xs → AllByRecursion (IsAtom n) (slice_index_or xs l [])
 atoms_in n l [] h = tt
 atoms_in n zero (x ∷ xs) h = h.0.within
 atoms_in n (suc l) (x ∷ xs) h = atoms_in n l xs h.1
 
-case_in : (n l : ℕ) (xs : List (List Atom)) → AllByRecursion (IsCase n) xs → AllAtoms (IsAtom n) (slice_index_or xs l [])
+case_in : (n l : ℕ) (xs : List (List Atom)) → AllByRecursion (IsCase n) xs → AllByRecursion (IsAtom n) (slice_index_or xs l [])
 case_in n l [] h = tt
 case_in n zero (x ∷ xs) h = h.0.within
 case_in n (suc l) (x ∷ xs) h = case_in n l xs h.1
@@ -80,7 +80,7 @@ module _ (p : Pair) (d k : ℕ) (f : Flags) (fit : IsFit p d k f) where
   formed New = fit.pair.new.system
   formed Old = fit.pair.old.system
 
-  pub location_atoms : (side : Side) (l : ℕ) → AllAtoms (IsAtom (system_of p side).vars) (atoms_at p side l)
+  pub location_atoms : (side : Side) (l : ℕ) → AllByRecursion (IsAtom (system_of p side).vars) (atoms_at p side l)
   location_atoms New l = atoms_in _ l p.new_atoms fit.pair.new.each
   location_atoms Old l = atoms_in _ l p.old_atoms fit.pair.old.each
 
@@ -90,7 +90,7 @@ module _ (p : Pair) (d k : ℕ) (f : Flags) (fit : IsFit p d k f) where
   pub is_within : (side : Side) (n : ℕ) → n < length (system_of p side).edges → IsWithin (system_of p side).locs (edge_at (system_of p side) n)
   is_within side n h = All-from_recursion _ _ (formed side).ends n no_edge h
 
-  pub atoms_fit : (o : Duty) → IsThere p o → AllAtoms (IsAtom (places_of p o)) (atoms_of p o)
+  pub atoms_fit : (o : Duty) → IsThere p o → AllByRecursion (IsAtom (places_of p o)) (atoms_of p o)
   atoms_fit (Along side n) h = atoms-++ _ _ _ (wider _ _ (location_atoms side (edge_at (system_of p side) n).from)) (is_edge side n h).atoms
   atoms_fit (AtExit side) h = location_atoms side (exit_of (system_of p side))
   atoms_fit (AtEntry n) h = case_in _ n p.cases fit.pair.cases.each

@@ -2,7 +2,7 @@
 use Rattle.std.specs.Prelude.{◌≡◌, ℕ, ◌≤◌, List, length}
 use Rattle.std.specs.List.{AllByRecursion}
 use Rattle.dc_affine.specs.declared.atom.Atom.{Atom}
-use Rattle.dc_affine.specs.Atoms.{IsAtom, AllAtoms}
+use Rattle.dc_affine.specs.Atoms.{IsAtom}
 use Rattle.dc_system.specs.declared.edges.System.{System}
 use Rattle.dc_system.specs.Shapes.{IsWellFormed}
 use Rattle.dc_claims.specs.Duties.{Pair, Flags}
@@ -10,7 +10,7 @@ use Rattle.dc_claims.specs.Duties.{Pair, Flags}
 -- at most 1,024 atoms over n variables
 pub record AreAtoms (n : ℕ) (atoms : List Atom) : Type 0 where
   pub few : length atoms ≤ 1024
-  pub within : AllAtoms (IsAtom n) atoms
+  pub within : AllByRecursion (IsAtom n) atoms
 
 -- a well formed system, and such atoms for each of its locations
 pub record IsPlan (s : System) (atoms : List (List Atom)) : Type 0 where
@@ -21,7 +21,7 @@ pub record IsPlan (s : System) (atoms : List (List Atom)) : Type 0 where
 -- a case has at most 256 atoms over the parameters
 pub record IsCase (n : ℕ) (case : List Atom) : Type 0 where
   pub few : length case ≤ 256
-  pub within : AllAtoms (IsAtom n) case
+  pub within : AllByRecursion (IsAtom n) case
 
 -- 1 to 64 cases
 pub record AreCases (n : ℕ) (cases : List (List Atom)) : Type 0 where

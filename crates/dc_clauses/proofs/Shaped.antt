@@ -3,6 +3,7 @@ use Rattle.std.specs.Prelude.{◌≡◌, ℕ, zero, suc, ◌<◌, ◌≤◌, ◌
 use Rattle.std.specs.List.{AllByRecursion, list_all}
 use Rattle.std.proofs.Common.{refl, sym, ◌∙◌, ap, subst, arith, get_or, length-append}
 use Rattle.std.proofs.lemmas.Bool.{and_parts, and_from, eqb-true, leb-true, le-leb}
+use Rattle.dc_math.specs.Members.{each_at_or, each_is}
 use Rattle.dc_affine.specs.declared.atom.Atom.{Atom}
 use Rattle.dc_system.specs.declared.edges.Edge.{Edge}
 use Rattle.dc_system.specs.declared.edges.System.{System}
@@ -17,16 +18,6 @@ use Rattle.dc_clauses.specs.Sides.{paired, atoms_at, edge_atoms, edge_places, is
 use Rattle.dc_clauses.specs.Lent.{IsPart, IsShaped, IsEdgePart, keeps_fit, entry_fits_cases}
 
 -- ---- one of a list
-pub each_one : {A : Type 0} (P : A → Type 0) (xs : List A) (k : ℕ) (x : A) → AllByRecursion P xs → k < length xs → x ≡ get_or xs k x → P x
-each_one P [] k x h l e = absurd (omega arith)
-each_one P (y ∷ ys) zero x h l e = subst P (sym e) h.0
-each_one P (y ∷ ys) (suc k) x h l e = each_one P ys k x h.1 (omega arith) e
-
-pub each_or : {A : Type 0} (P : A → Type 0) (xs : List A) (k : ℕ) (d : A) → AllByRecursion P xs → P d → P (get_or xs k d)
-each_or P [] k d h p = p
-each_or P (y ∷ ys) zero d h p = h.0
-each_or P (y ∷ ys) (suc k) d h p = each_or P ys k d h.1 p
-
 pub test_or : {A : Type 0} (p : A → Bool) (xs : List A) (k : ℕ) (d : A) → list_all p xs ≡ true → p d ≡ true → p (get_or xs k d) ≡ true
 test_or p [] k d h e = e
 test_or p (y ∷ ys) zero d h e = (and_parts (p y) (list_all p ys) h).0
@@ -44,17 +35,17 @@ no_atoms : AreAtoms []
 no_atoms = record { few = omega arith; each = tt }
 
 pub location_atoms : (s : System) (x : SideCert) (l : ℕ) → IsPart s x → AreAtoms (atoms_at x l)
-location_atoms s x l p = each_or AreAtoms x.families l [] p.families no_atoms
+location_atoms s x l p = each_at_or AreAtoms x.families l [] p.families no_atoms
 
 pub edge_part : (s : System) (x : SideCert) (k : ℕ) (e : Edge) (c : EdgeCert) → IsShaped s x → k < length s.edges → e ≡ get_or s.edges k e → c ≡ get_or x.edges k c → IsEdgePart s x e c
 edge_part s x k e c h l q r =
-    let edge : shapes.IsEdge s.vars e = each_one (shapes.IsEdge s.vars) s.edges k e h.part.system.edges l q in
+    let edge : shapes.IsEdge s.vars e = each_is (shapes.IsEdge s.vars) s.edges k e h.part.system.edges l q in
     let source : AreAtoms (atoms_at x e.from) = location_atoms s x e.from h.part in
     let n : k < length x.edges = (let o = h.one_each in omega arith) in
     record {
       few_vars = h.part.system.few_vars;
       edge = edge;
-      cert = each_one IsEdge x.edges k c h.part.edges n r;
+      cert = each_is IsEdge x.edges k c h.part.edges n r;
       few_atoms = (let a = source.few in let b = edge.few_atoms in let d = length-append (atoms_at x e.from) e.guard in omega arith);
       target = location_atoms s x e.to h.part;
       full = test_or (is_full s) x.families e.to [] h.full refl;

@@ -2,7 +2,7 @@
 use Rattle.std.specs.Prelude.{◌≡◌, ℕ, ◌≤◌, Bool, true, ◌&&◌, leb, List, length}
 use Rattle.std.specs.List.{AllByRecursion, list_all}
 use Rattle.dc_affine.specs.declared.atom.Atom.{Atom}
-use Rattle.dc_affine.specs.Atoms.{AllAtoms, IsAtom}
+use Rattle.dc_affine.specs.Atoms.{IsAtom}
 use Rattle.dc_system.specs.declared.edges.Edge.{Edge}
 use Rattle.dc_system.specs.declared.edges.System.{System}
 use Rattle.dc_system.specs.Shapes as shapes
@@ -16,7 +16,7 @@ use Rattle.dc_clauses.specs.Sides.{paired, atoms_at, edge_atoms, exit_atoms, is_
 -- at most 256 atoms over n places
 pub record IsCase (n : ℕ) (case : List Atom) : Type 0 where
   pub few : length case ≤ 256
-  pub within : AllAtoms (IsAtom n) case
+  pub within : AllByRecursion (IsAtom n) case
 
 -- a system, and its part of a certificate within the ranges
 pub record IsPart (s : System) (x : SideCert) : Type 0 where

@@ -18,7 +18,7 @@ use Rattle.dc_system.specs.Shapes.{IsForm, IsEdge, IsWithin, IsWellFormed}
 use Rattle.dc_claims.specs.Duties.{Pair, system_of, atoms_at, atoms_of, edge_at, exit_of, places_of, same_side, IsThere}
 use Rattle.dc_claims.specs.declared.duty.Duty.{Duty}
 use Rattle.dc_claims.specs.declared.duty.Duty.TheVariants.{Along, AtExit, AtEntry}
-use Rattle.dc_affine.specs.Atoms.{IsAtom, AllAtoms}
+use Rattle.dc_affine.specs.Atoms.{IsAtom}
 use Rattle.dc_poly.specs.Terms.{Exponents}
 use Rattle.dc_coefficients.proofs.Placing.{any_default}
 use Rattle.dc_claims.specs.Parts.{when, itself, at_inputs, bound_part, part_along, part_at, part_at_entry, part_at_exit, rest_of}
@@ -207,7 +207,7 @@ module _ (p : Programs) (pair : IsPair (lent p)) where
   pub few_duty_places : (o : Duty) → places_of (lent p) o ≤ 11
   few_duty_places o = few_places (lent p) 0 1 (all_set (lent p)) (pair_fits (lent p) pair) o
 
-  pub duty_atoms_fit : (o : Duty) → IsThere (lent p) o → AllAtoms (IsAtom (places_of (lent p) o)) (atoms_of (lent p) o)
+  pub duty_atoms_fit : (o : Duty) → IsThere (lent p) o → AllByRecursion (IsAtom (places_of (lent p) o)) (atoms_of (lent p) o)
   duty_atoms_fit o h = atoms_fit (lent p) 0 1 (all_set (lent p)) (pair_fits (lent p) pair) o h
 
   pub few_duty_atoms : (o : Duty) → IsThere (lent p) o → length (atoms_of (lent p) o) ≤ 2048

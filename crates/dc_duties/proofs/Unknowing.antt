@@ -2,6 +2,7 @@
 use Rattle.std.specs.Prelude.{◌≡◌, ℕ, zero, suc, ◌+◌, ◌<◌, ◌≤◌, List, [], ◌∷◌, ◌++◌, map, flat_map, length, slice_index_or}
 use Rattle.std.specs.List.{AllByRecursion, range_with_len}
 use Rattle.std.proofs.Common.{refl, sym, ◌∙◌, ap, subst, arith}
+use Rattle.dc_math.specs.Members.{each-++}
 use Rattle.dc_syntax.specs.declared.tree.Side.{Side}
 use Rattle.dc_syntax.specs.declared.tree.Side.TheVariants.{New, Old}
 use Rattle.dc_poly.specs.Terms.{Polynomial, TermList}
@@ -21,10 +22,6 @@ pub coefficient_of : (p : Pair) (d : ℕ) (side : Side) (i : ℕ) → d ≤ 3 �
 coefficient_of p d side i h l = let w = (are_monomials (system_of p side).vars d).only i [] l in record { long = w.places; low = (let a = w.low in omega arith) }
 
 -- ---- each unknown of the list is one
-all_++ : {A : Type 0} (P : A → Type 0) (xs ys : List A) → AllByRecursion P xs → AllByRecursion P ys → AllByRecursion P (xs ++ ys)
-all_++ P [] ys h g = g
-all_++ P (x ∷ xs) ys h g = (h.0, all_++ P xs ys h.1 g)
-
 module _ (t : Task) where
   at_location : (side : Side) (l a n : ℕ) → a + n ≤ length (monomials_at (lent t.programs.now) t.degree side) → AllByRecursion (IsUnknown t) (map (Coefficient side l) (range_with_len a n))
   at_location side l a zero h = tt
@@ -32,10 +29,10 @@ module _ (t : Task) where
 
   on_side : (side : Side) (ls : List ℕ) → AllByRecursion (IsUnknown t) (flat_map (unknowns_at (lent t.programs.now) t.degree side) ls)
   on_side side [] = tt
-  on_side side (l ∷ ls) = all_++ (IsUnknown t) _ _ (at_location side l 0 (length (monomials_at (lent t.programs.now) t.degree side)) (omega arith)) (on_side side ls)
+  on_side side (l ∷ ls) = each-++ (IsUnknown t) _ _ (at_location side l 0 (length (monomials_at (lent t.programs.now) t.degree side)) (omega arith)) (on_side side ls)
 
   all_known : AllByRecursion (IsUnknown t) (unknowns_of (lent t.programs.now) t.degree)
-  all_known = (tt, all_++ (IsUnknown t) _ _ (on_side New (range_with_len 0 (system_of (lent t.programs.now) New).locs)) (on_side Old (range_with_len 0 (system_of (lent t.programs.now) Old).locs)))
+  all_known = (tt, each-++ (IsUnknown t) _ _ (on_side New (range_with_len 0 (system_of (lent t.programs.now) New).locs)) (on_side Old (range_with_len 0 (system_of (lent t.programs.now) Old).locs)))
 
   index_all : (us : List Unknown) (i : ℕ) → AllByRecursion (IsUnknown t) us → IsUnknown t (slice_index_or us i Bound)
   index_all [] i h = tt

@@ -3,12 +3,13 @@ use Rattle.std.specs.Prelude.{flat_map, ◌≡◌, ℕ, ◌≤◌, Bool, List, [
 use Rattle.std.specs.List.{AllByRecursion}
 use Rattle.std.proofs.Common.{refl, sym, ◌∙◌, subst, arith}
 use Rattle.std.proofs.lemmas.List.{length-map}
+use Rattle.dc_math.specs.Members.{each-++}
 use Rattle.dc_math.specs.Rational.{ℚ}
 use Rattle.dc_syntax.specs.declared.tree.Proc.{Proc}
 use Rattle.dc_syntax.specs.declared.tree.Side.{Side}
 use Rattle.dc_syntax.specs.declared.tree.Side.TheVariants.{New, Old}
 use Rattle.dc_affine.specs.declared.atom.Atom.{Atom}
-use Rattle.dc_affine.specs.Atoms.{IsFullAtom, IsAtom, AllAtoms, AllCases}
+use Rattle.dc_affine.specs.Atoms.{IsFullAtom, IsAtom, AllCases}
 use Rattle.dc_lp.specs.Tables.{Table}
 use Rattle.dc_program.specs.Programs.{IsProgram, AllShort}
 use Rattle.dc_system.specs.declared.edges.System.{System}
@@ -22,7 +23,6 @@ use Rattle.dc_rows.specs.Candidate.{AreCandidates}
 use Rattle.dc_families.specs.Graphs.{graph_of}
 use Rattle.dc_families.specs.Families.{family_of}
 use Rattle.dc_families.specs.Rounds.{IsInductive, IsGreatest}
-use Rattle.dc_families.proofs.Lists.{all_both}
 use Rattle.dc_families.proofs.Folds.{systems_are_graphs}
 use Rattle.dc_families.proofs.Prunes.{printed_are_inductive}
 use Rattle.dc_points.specs.Flags.{AreFlags}
@@ -55,14 +55,14 @@ module _ (i : Input) (p : Proc) (s : System) (program : IsProgram p) (size : siz
   module _ (side : Side) (live : List Bool) (part : Part) (kind : AreCandidates s.vars (candidates_for i p))
       (is_part : IsPart side (graph_of s) i.cases live (candidates_for i p) part)
       (greatest : IsGreatest (graph_of s) i.cases (candidates_for i p) part.family) where
-    full : AllByRecursion (AllAtoms (IsFullAtom s.vars)) part.printed
+    full : AllByRecursion (AllByRecursion (IsFullAtom s.vars)) part.printed
     full = printed_are_atoms (graph_of s) (candidates_for i p) part.family part.printed part.questions kind is_part.printed
 
     inductive : IsInductive (graph_of s) i.cases (family_of part.printed)
     inductive =
         printed_are_inductive (graph_of s) i.cases (candidates_for i p) part.family part.printed part.questions (systems_are_graphs s formed) kind greatest is_part.printed
 
-    are_atoms : (lists : List (List Atom)) → AllByRecursion (λ atoms. length atoms ≤ 1024) lists → AllByRecursion (AllAtoms (IsFullAtom s.vars)) lists
+    are_atoms : (lists : List (List Atom)) → AllByRecursion (λ atoms. length atoms ≤ 1024) lists → AllByRecursion (AllByRecursion (IsFullAtom s.vars)) lists
         → AllByRecursion (AreAtoms s.vars) lists
     are_atoms [] f h = tt
     are_atoms (atoms ∷ lists) f h = (record { few = f.0; within = full_atoms s.vars s.vars atoms refl h.0 }, are_atoms lists f.1 h.1)
@@ -94,9 +94,9 @@ are_cases n [] h g = tt
 are_cases n (case ∷ cases) h g = (record { few = (let l = h.0 in omega arith); within = full_atoms n n case refl g.0 }, are_cases n cases h.1 g.1)
 
 -- the atoms of all cases
-flat_atoms : (n : ℕ) (cases : List (List Atom)) → AllCases (IsFullAtom n) cases → AllAtoms (IsAtom n) (flat_map (λ case. case) cases)
+flat_atoms : (n : ℕ) (cases : List (List Atom)) → AllCases (IsFullAtom n) cases → AllByRecursion (IsAtom n) (flat_map (λ case. case) cases)
 flat_atoms n [] h = tt
-flat_atoms n (case ∷ cases) h = all_both (IsAtom n) case (flat_map (λ case. case) cases) (full_atoms n n case refl h.0) (flat_atoms n cases h.1)
+flat_atoms n (case ∷ cases) h = each-++ (IsAtom n) case (flat_map (λ case. case) cases) (full_atoms n n case refl h.0) (flat_atoms n cases h.1)
 
 -- ---- the whole
 module _ (i : Input) (a : Analysis) (input : IsInput i) (h : IsThrough i a) where

@@ -71,10 +71,6 @@ sum_zeros : {A : Type 0} (ms : List A) → sum_by unsigned_abs (map (λ m. pos 0
 sum_zeros [] = refl
 sum_zeros (m ∷ ms) = let a = sum_by-cons unsigned_abs (pos 0) (map (λ i. pos 0) ms) in let b = sum_zeros ms in omega arith
 
-each_from : {A : Type 0} (P : A → Type 0) (xs : List A) → AllByRecursion P xs → AllByRecursion P xs
-each_from P [] h = tt
-each_from P (x ∷ xs) h = (h.0, each_from P xs h.1)
-
 -- ---- parts
 when_light : (b : Bool) (q : TermList) (w : ℕ) → weight q ≤ w → weight (when b q) ≤ w
 when_light true q w h = h
@@ -212,7 +208,7 @@ module _ (p : Pair) (d k : ℕ) (f : Flags) (fit : IsFit p d k f) where
 
     small : sum_by (λ q. unsigned_abs (v q)) (equations_of p d k f) < 2 ^ 127
     small =
-        under (length (duties_of f)) part_weight _ (in_duties (duties_of f) (each_from (IsThere p) (duties_of f) (recursion_from_All (IsThere p) (duties_of f) (duties_there p f fit.flags))))
+        under (length (duties_of f)) part_weight _ (in_duties (duties_of f) ((recursion_from_All (IsThere p) (duties_of f) (duties_there p f fit.flags))))
         (duties_few p f fit.pair fit.flags) (omega arith)
       where
         under : (n w x : ℕ) → x ≤ n * w → n ≤ 2048 → 2048 * w < 2 ^ 127 → x < 2 ^ 127
@@ -225,7 +221,7 @@ module _ (p : Pair) (d k : ℕ) (f : Flags) (fit : IsFit p d k f) where
       (each-flat_map Known both_signs (unknowns_of p d) (each_all _ (unknowns_of p d) (λ u. (tt, (tt, tt)))))
       (each-flat_map Known (multipliers_at p k) (duties_of f)
       (each-weaker (IsThere p) (λ o. AllByRecursion Known (multipliers_at p k o)) (λ o h. each-map Known (Times o) (range_with_len 0 (length (products_at p k o))) (each_all _ (range_with_len 0 (length (products_at p k o))) (λ i. h))) (duties_of f)
-      (each_from (IsThere p) (duties_of f) (recursion_from_All (IsThere p) (duties_of f) (duties_there p f fit.flags)))))
+      ((recursion_from_All (IsThere p) (duties_of f) (duties_there p f fit.flags)))))
 
   abbrev equations : List Equation
   equations = equations_of p d k f

@@ -1,9 +1,10 @@
 -- The lines and keeps of problems that come to their end.
 use Rattle.std.specs.Prelude.{ℕ, suc, ◌+◌, ◌^◌, ◌<◌, ◌≤◌, List, length, ℤ, sum_by, unsigned_abs}
+use Rattle.std.specs.List.{AllByRecursion}
 use Rattle.std.proofs.Common.{sym, ◌∙◌}
 use Rattle.dc_math.specs.Rational.{ℚ}
 use Rattle.dc_affine.specs.declared.atom.Atom.{Atom}
-use Rattle.dc_affine.specs.Atoms.{IsAtom, AllAtoms}
+use Rattle.dc_affine.specs.Atoms.{IsAtom}
 use Rattle.dc_lp.specs.Linear.{Linear, cost_of}
 use Rattle.dc_lp.specs.Problems.{whole_at}
 use Rattle.dc_lp.specs.Tables.{Table}
@@ -67,7 +68,7 @@ pub record HasLine (hyps : List Atom) (n budget : ℕ) : Type 0 where
   pub line : IsLine hyps n budget said
   pub flag : IsFlag (is_live said) hyps
 
-module _ (hyps : List Atom) (n budget : ℕ) (atoms : AllAtoms (IsAtom n) hyps) (few : n ≤ 1024) where
+module _ (hyps : List Atom) (n budget : ℕ) (atoms : AllByRecursion (IsAtom n) hyps) (few : n ≤ 1024) where
   abbrev empty : Linear ℤ
   empty = empty_problem hyps n
 
@@ -109,7 +110,7 @@ module _ (hyps : List Atom) (n budget : ℕ) (atoms : AllAtoms (IsAtom n) hyps) 
       by (Unbounded j) c = absurd (empty-no_ray n hyps (direction_at h.table j) (shown_at_end (rational empty) budget (Unbounded j) h.table c).ray)
 
 -- ---- keeps
-module _ (hyps : List Atom) (form : List ℤ) (budget : ℕ) (atoms : AllAtoms (IsAtom (length form)) hyps) (few : length form ≤ 1024)
+module _ (hyps : List Atom) (form : List ℤ) (budget : ℕ) (atoms : AllByRecursion (IsAtom (length form)) hyps) (few : length form ≤ 1024)
     (small : sum_by unsigned_abs form < 2 ^ 70) (live : ¬ IsDead hyps) where
   abbrev sup : Linear ℤ
   sup = sup_problem hyps form

@@ -4,11 +4,11 @@ use Rattle.std.specs.List.{AllByRecursion}
 use Rattle.std.proofs.Common.{refl, sym, ◌∙◌, ap, subst, arith}
 use Rattle.std.proofs.lemmas.List.{length-take-le, get_or-take}
 use Rattle.std.proofs.lemmas.List.Sums.{sum_by-take-le}
-use Rattle.dc_math.specs.Members.{Among, head, tail, each_among}
+use Rattle.dc_math.specs.Members.{Among, head, tail, each_at_or, each_among}
 use Rattle.dc_math.specs.Rational.{of_ℤ}
 use Rattle.dc_syntax.specs.declared.tree.Side.{Side}
 use Rattle.dc_affine.specs.declared.atom.Atom.{Atom}
-use Rattle.dc_affine.specs.Atoms.{IsAtom, IsFullAtom, AllAtoms, AllCases}
+use Rattle.dc_affine.specs.Atoms.{IsAtom, IsFullAtom, AllCases}
 use Rattle.dc_lp.specs.Problems.{whole_at}
 use Rattle.dc_system.specs.declared.edges.Edge.{Edge}
 use Rattle.dc_system.specs.declared.edges.System.{System}
@@ -32,7 +32,6 @@ use Rattle.dc_families.specs.Graphs.{Graph, graph_of}
 use Rattle.dc_families.specs.Families.{family_of}
 use Rattle.dc_families.specs.Moves.{at_start, edge_places, form_after}
 use Rattle.dc_families.specs.Rounds.{IsInductive}
-use Rattle.dc_families.proofs.Lists.{each_atom}
 use Rattle.dc_families.proofs.Tests.{has_among, among_has}
 use Rattle.dc_moves.specs.Cuts.{with_guard}
 use Rattle.dc_moves.proofs.Cuts.{cuts_ask_the_same, cuts_ask_the_same_forms, cuts_say_the_same, cuts_are_atoms, combines-cut, live-cut}
@@ -52,15 +51,6 @@ use Rattle.dc_endings.proofs.Shown.{IsEnded, done_ended, HasLine, has_line, has_
 pub done_parts : (budget : ℕ) (ps qs : List Asked) → AllDone budget (ps ++ qs) → AllDone budget ps × AllDone budget qs
 done_parts budget [] qs h = (tt, h)
 done_parts budget (p ∷ ps) qs h = let r = done_parts budget ps qs h.1 in ((h.0, r.0), r.1)
-
-all_at : {A : Type 0} (Q : List A → Type 0) (xs : List (List A)) (l : ℕ) → Q [] → AllByRecursion Q xs → Q (slice_index_or xs l [])
-all_at Q [] l n h = n
-all_at Q (x ∷ xs) zero n h = h.0
-all_at Q (x ∷ xs) (suc l) n h = all_at Q xs l n h.1
-
-case_atoms : (P : Atom → Type 0) {case : List Atom} {cases : List (List Atom)} → AllCases P cases → Among case cases → AllAtoms P case
-case_atoms P h head = h.0
-case_atoms P h (tail m) = case_atoms P h.1 m
 
 pub line_flag : (b : Bool) (hyps : List Atom) (n budget : ℕ) (l : HasLine hyps n budget) → IsFlag b hyps → is_live l.said ≡ b
 line_flag b hyps n budget l f = flag_same (is_live l.said) b hyps l.flag f
@@ -90,7 +80,7 @@ module _ (hyps : List Atom) (n : ℕ) (form : Atom → List ℤ) (shown : Atom �
 
 -- ---- a version
 module _ (version : Side) (s : System) (formed : IsWellFormed s) (cases : List (List Atom)) (condition : AllCases (IsFullAtom s.params) cases)
-    (printed : List (List Atom)) (atoms : AllByRecursion (AllAtoms (IsFullAtom s.vars)) printed)
+    (printed : List (List Atom)) (atoms : AllByRecursion (AllByRecursion (IsFullAtom s.vars)) printed)
     (inductive : IsInductive (graph_of s) cases (family_of printed)) (budget : ℕ) where
   abbrev g : Graph
   g = graph_of s
@@ -101,13 +91,13 @@ module _ (version : Side) (s : System) (formed : IsWellFormed s) (cases : List (
   abbrev at : ℕ → List Atom
   at l = printed_at g printed l
 
-  atoms_at : (l : ℕ) → AllAtoms (IsFullAtom n) (at l)
-  atoms_at l = all_at (AllAtoms (IsFullAtom n)) printed l tt atoms
+  atoms_at : (l : ℕ) → AllByRecursion (IsFullAtom n) (at l)
+  atoms_at l = each_at_or (AllByRecursion (IsFullAtom n)) printed l [] tt atoms
 
   full_at : (l : ℕ) (a : Atom) → Among a (at l) → IsFullAtom n a
-  full_at l a m = each_atom (IsFullAtom n) a (at l) (atoms_at l) m
+  full_at l a m = each_among (IsFullAtom n) (atoms_at l) m
 
-  in_atoms : (l : ℕ) → AllAtoms (IsAtom n) (at l)
+  in_atoms : (l : ℕ) → AllByRecursion (IsAtom n) (at l)
   in_atoms l = full_atoms n n (at l) refl (atoms_at l)
 
   -- ---- a case shows the atoms of the entry
@@ -118,8 +108,8 @@ module _ (version : Side) (s : System) (formed : IsWellFormed s) (cases : List (
     start_long : length start ≡ s.params
     start_long = length-take-le s.params a.coefs (let f = (full_at 0 a in_entry).one_each in let p = formed.params_first in omega arith)
 
-    start_atoms : AllAtoms (IsAtom (length start)) case
-    start_atoms = full_atoms s.params (length start) case start_long (case_atoms (IsFullAtom s.params) condition m)
+    start_atoms : AllByRecursion (IsAtom (length start)) case
+    start_atoms = full_atoms s.params (length start) case start_long (each_among (AllByRecursion (IsFullAtom s.params)) condition m)
 
     start_light : sum_by unsigned_abs start < 2 ^ 70
     start_light =
@@ -184,7 +174,7 @@ module _ (version : Side) (s : System) (formed : IsWellFormed s) (cases : List (
         by true = let l = formed.few_vars in omega arith
         by false = let l = formed.few_vars in omega arith
 
-    cut_atoms : AllAtoms (IsAtom places) cut
+    cut_atoms : AllByRecursion (IsAtom places) cut
     cut_atoms = cuts_are_atoms n e (at e.from) is_edge (in_atoms e.from)
 
     cut_live : ¬ IsDead kept → ¬ IsDead cut
@@ -228,13 +218,13 @@ module _ (version : Side) (s : System) (formed : IsWellFormed s) (cases : List (
       entailed : Entails kept (atom_after n e a)
       entailed p k =
           let i = (inductive e.to a (among_has a (at e.to) in_target)).edges e m refl p in
-          (i (record { each = λ b h. each_atom (MeetsAt p) b (at e.from) (left (at e.from) k) (has_among (at e.from) b h) }) (right (at e.from) k)).1
+          (i (record { each = λ b h. each_among (MeetsAt p) (left (at e.from) k) (has_among (at e.from) b h) }) (right (at e.from) k)).1
         where
-          left : (xs : List Atom) → AllAtoms (MeetsAt p) (xs ++ e.guard) → AllAtoms (MeetsAt p) xs
+          left : (xs : List Atom) → AllByRecursion (MeetsAt p) (xs ++ e.guard) → AllByRecursion (MeetsAt p) xs
           left [] h = tt
           left (x ∷ xs) h = (h.0, left xs h.1)
 
-          right : (xs : List Atom) → AllAtoms (MeetsAt p) (xs ++ e.guard) → AllAtoms (MeetsAt p) e.guard
+          right : (xs : List Atom) → AllByRecursion (MeetsAt p) (xs ++ e.guard) → AllByRecursion (MeetsAt p) e.guard
           right [] h = h
           right (x ∷ xs) h = right xs h.1
 
@@ -265,7 +255,7 @@ module _ (version : Side) (s : System) (formed : IsWellFormed s) (cases : List (
       keep_along : (q : Place) → IsDone budget (ask q (sup_problem kept form)) → (k : Sparse) × IsKeep kept places form (atom_after n e a) budget k
       keep_along q d =
           let few : length form ≤ 1024 = (let l = form_long in let f = places_few in omega arith) in
-          let r = has_keep cut form budget (subst (λ k. AllAtoms (IsAtom k) cut) (sym form_long) cut_atoms) few form_light (cut_live live) (of_ℤ (atom_after n e a).c0) from_cut
+          let r = has_keep cut form budget (subst (λ k. AllByRecursion (IsAtom k) cut) (sym form_long) cut_atoms) few form_light (cut_live live) (of_ℤ (atom_after n e a).c0) from_cut
           (subst (λ p. IsEnded p budget) (sym same_problem) (done_ended budget (ask q (sup_problem kept form)) d)) in
           let w = least_kept r.0 r.1 in
           (r.0, record { vector = w.vector; shows = shown_keep kept places form (atom_after n e a) budget r.0 form_long coefficients_same from_kept w })

@@ -1,9 +1,10 @@
 -- The problems of lists of atoms have small numbers.
 use Rattle.std.specs.Prelude.{◌≡◌, ℕ, zero, suc, ◌+◌, ◌*◌, ◌^◌, ◌<◌, ◌≤◌, Bool, true, false, eqb, ltb, if◌then◌else◌, List, [], ◌∷◌, length, ℤ, pos, negsuc, unsigned_abs, sum_by}
+use Rattle.std.specs.List.{AllByRecursion}
 use Rattle.std.proofs.Common.{refl, sym, ◌∙◌, ap, arith}
 use Rattle.std.proofs.lemmas.List.Sums.{sum_by-cons}
 use Rattle.dc_affine.specs.declared.atom.Atom.{Atom}
-use Rattle.dc_affine.specs.Atoms.{IsAtom, AllAtoms, AllFit}
+use Rattle.dc_affine.specs.Atoms.{IsAtom, AllFit}
 use Rattle.dc_lp.specs.Problems.{whole_at}
 use Rattle.dc_points.specs.Stated.{atom_number, coefficient_of, place_entry, empty_problem, sup_problem}
 use Rattle.dc_endings.proofs.Starts.{tally, IsLight}
@@ -34,12 +35,12 @@ record IsBounded (a : Atom) : Type 0 where
   coefficients : (i : ℕ) → unsigned_abs (coefficient_of a i) ≤ 2147483648
   constant : unsigned_abs a.c0 ≤ 2147483648
 
-bounded : (n : ℕ) (hyps : List Atom) (j : ℕ) → AllAtoms (IsAtom n) hyps → IsBounded (atom_number hyps j)
+bounded : (n : ℕ) (hyps : List Atom) (j : ℕ) → AllByRecursion (IsAtom n) hyps → IsBounded (atom_number hyps j)
 bounded n [] j h = record { coefficients = λ i. omega arith; constant = omega arith }
 bounded n (a ∷ hyps) zero h = record { coefficients = λ i. whole_small a.coefs i h.0.coefs_within; constant = h.0.constant_within }
 bounded n (a ∷ hyps) (suc j) h = bounded n hyps j h.1
 
-module _ (k : ℕ) (hyps : List Atom) (atoms : AllAtoms (IsAtom k) hyps) where
+module _ (k : ℕ) (hyps : List Atom) (atoms : AllByRecursion (IsAtom k) hyps) where
   place_small : (n i j : ℕ) → unsigned_abs (place_entry n hyps i j) ≤ 2147483648
   place_small n i j = by (ltb i n)
     where

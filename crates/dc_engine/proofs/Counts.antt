@@ -1,12 +1,13 @@
 -- Counts that pass their limits, in order.
 use Rattle.std.specs.Prelude.{◌≡◌, ◌⊎◌, ℕ, List, [], ◌∷◌, ◌++◌, flat_map, Option, Some, None}
+use Rattle.std.specs.List.{AllByRecursion}
 use Rattle.std.specs.Option.{option_and_then}
 use Rattle.std.proofs.Common.{sym, ◌∙◌, ap, ap₂, subst, inl, inr}
 use Rattle.dc_syntax.specs.declared.tree.Proc.{Proc}
 use Rattle.dc_syntax.specs.declared.tree.Side.{Side}
 use Rattle.dc_syntax.specs.declared.tree.Side.TheVariants.{New, Old}
 use Rattle.dc_affine.specs.declared.atom.Atom.{Atom}
-use Rattle.dc_affine.specs.Atoms.{IsAtom, IsFullAtom, AllAtoms, AllCases}
+use Rattle.dc_affine.specs.Atoms.{IsAtom, IsFullAtom, AllCases}
 use Rattle.dc_system.specs.declared.edges.System.{System}
 use Rattle.dc_system.specs.declared.edges.SystemFault.{SystemFault}
 use Rattle.dc_system.specs.declared.edges.SystemFault.TheVariants as system
@@ -90,26 +91,26 @@ module _ (i : Input) where
   no_excess e g k h = skips a (b ∷ c ∷ d ∷ []) e ∙ skips b (c ∷ d ∷ []) g ∙ skips c (d ∷ []) k ∙ skips d [] h
 
 -- ---- the atoms of all cases
-join_atoms : (n : ℕ) (xs ys : List Atom) → AllAtoms (IsFullAtom n) xs → AllAtoms (IsAtom n) ys → AllAtoms (IsAtom n) (xs ++ ys)
+join_atoms : (n : ℕ) (xs ys : List Atom) → AllByRecursion (IsFullAtom n) xs → AllByRecursion (IsAtom n) ys → AllByRecursion (IsAtom n) (xs ++ ys)
 join_atoms n [] ys h k = k
 join_atoms n (x ∷ xs) ys h k = (h.0.within, join_atoms n xs ys h.1 k)
 
-flat_atoms : (n : ℕ) (cases : List (List Atom)) → AllCases (IsFullAtom n) cases → AllAtoms (IsAtom n) (flat_map (λ case. case) cases)
+flat_atoms : (n : ℕ) (cases : List (List Atom)) → AllCases (IsFullAtom n) cases → AllByRecursion (IsAtom n) (flat_map (λ case. case) cases)
 flat_atoms n [] h = tt
 flat_atoms n (case ∷ cases) h = join_atoms n case (flat_map (λ c. c) cases) h.0 (flat_atoms n cases h.1)
 
 -- those that a system before folding is lent with
 module _ (i : Input) (input : IsInput i) (atoms : List Atom) (flat : atoms ≡ flat_map (λ case. case) i.cases) where
-  pub new_atoms : (s : System) → s ≡ system_of i.new → AllAtoms (IsAtom s.params) atoms
+  pub new_atoms : (s : System) → s ≡ system_of i.new → AllByRecursion (IsAtom s.params) atoms
   new_atoms s e =
-      subst (λ (t : System). AllAtoms (IsAtom t.params) atoms) (sym e)
-      (subst (AllAtoms (IsAtom i.new.params)) (sym flat) (flat_atoms i.new.params i.cases input.condition.atoms))
+      subst (λ (t : System). AllByRecursion (IsAtom t.params) atoms) (sym e)
+      (subst (AllByRecursion (IsAtom i.new.params)) (sym flat) (flat_atoms i.new.params i.cases input.condition.atoms))
 
-  pub old_atoms : (s : System) → s ≡ system_of i.old → AllAtoms (IsAtom s.params) atoms
+  pub old_atoms : (s : System) → s ≡ system_of i.old → AllByRecursion (IsAtom s.params) atoms
   old_atoms s e =
-      subst (λ (t : System). AllAtoms (IsAtom t.params) atoms) (sym e)
-      (subst (λ n. AllAtoms (IsAtom n) atoms) input.params.0
-      (subst (AllAtoms (IsAtom i.new.params)) (sym flat) (flat_atoms i.new.params i.cases input.condition.atoms)))
+      subst (λ (t : System). AllByRecursion (IsAtom t.params) atoms) (sym e)
+      (subst (λ n. AllByRecursion (IsAtom n) atoms) input.params.0
+      (subst (AllByRecursion (IsAtom i.new.params)) (sym flat) (flat_atoms i.new.params i.cases input.condition.atoms)))
 
   pub candidates_same : (p : Proc) (s : System) → s ≡ system_of p → candidates_of s atoms i.settings.pairs ≡ candidates_for i p
   candidates_same p s e = ap₂ (λ t zs. candidates_of t zs i.settings.pairs) e flat

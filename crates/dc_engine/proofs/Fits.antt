@@ -6,7 +6,7 @@ use Rattle.std.proofs.Common.{refl, sym, ap, ap₂, subst, arith}
 use Rattle.std.proofs.lemmas.Bool.{ltb-false}
 use Rattle.dc_syntax.specs.declared.tree.Count.TheVariants as count
 use Rattle.dc_affine.specs.declared.atom.Atom.{Atom}
-use Rattle.dc_affine.specs.Atoms.{IsFullAtom, AllAtoms, AllCases}
+use Rattle.dc_affine.specs.Atoms.{IsFullAtom, AllCases}
 use Rattle.dc_program.specs.Programs.{AllShort, IsCondition}
 use Rattle.dc_system.specs.declared.edges.Edge.{Edge}
 use Rattle.dc_system.specs.declared.edges.System.{System}
@@ -32,7 +32,7 @@ use Rattle.dc_acceptance.proofs.Few.{few_printed}
 use Rattle.dc_engine.proofs.Lines.{full_atoms}
 
 -- ---- atoms
-both_places : (n : ℕ) (lists : List (List Atom)) → AllByRecursion (λ atoms. length atoms ≤ 1024) lists → AllByRecursion (AllAtoms (IsFullAtom n)) lists → AllByRecursion (plans.AreAtoms n) lists
+both_places : (n : ℕ) (lists : List (List Atom)) → AllByRecursion (λ atoms. length atoms ≤ 1024) lists → AllByRecursion (AllByRecursion (IsFullAtom n)) lists → AllByRecursion (plans.AreAtoms n) lists
 both_places n [] h k = tt
 both_places n (x ∷ lists) h k = (record { few = h.0; within = full_atoms n x k.0 }, both_places n lists h.1 k.1)
 

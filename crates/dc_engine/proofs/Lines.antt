@@ -1,9 +1,10 @@
 -- The lines of the cases, one after another.
 use Rattle.std.specs.Prelude.{◌≡◌, ℕ, zero, suc, ◌+◌, ◌<◌, ◌≤◌, Bool, List, [], ◌∷◌, ◌++◌, map, take, drop, length, slice_index_or}
+use Rattle.std.specs.List.{AllByRecursion}
 use Rattle.std.proofs.Common.{refl, sym, ◌∙◌, ap, subst, arith}
 use Rattle.std.proofs.lemmas.List.{take_all, length-take-le}
 use Rattle.dc_affine.specs.declared.atom.Atom.{Atom}
-use Rattle.dc_affine.specs.Atoms.{IsAtom, IsFullAtom, AllAtoms, AllCases}
+use Rattle.dc_affine.specs.Atoms.{IsAtom, IsFullAtom, AllCases}
 use Rattle.dc_cert.specs.declared.certificate.Liveness.{Liveness}
 use Rattle.dc_cert.specs.declared.certificate.Liveness.TheVariants.{Dead, Live}
 use Rattle.dc_cert.specs.Ranges.{is_live}
@@ -28,14 +29,14 @@ line_done : (hyps : List Atom) (n budget : ℕ) (l : Liveness) (q : Place) → I
 line_done hyps n budget (Dead k) q h = line_done_dead hyps n budget k q h
 line_done hyps n budget (Live k) q h = line_done_live hyps n budget k q h
 
-pub full_atoms : (n : ℕ) (atoms : List Atom) → AllAtoms (IsFullAtom n) atoms → AllAtoms (IsAtom n) atoms
+pub full_atoms : (n : ℕ) (atoms : List Atom) → AllByRecursion (IsFullAtom n) atoms → AllByRecursion (IsAtom n) atoms
 full_atoms n [] h = tt
 full_atoms n (a ∷ atoms) h = (h.0.within, full_atoms n atoms h.1)
 
 pub case_atoms : (n : ℕ) (cases : List (List Atom)) (k : ℕ) (case : List Atom) → AllCases (IsFullAtom n) cases → k < length cases → case ≡ slice_index_or cases k case
-    → AllAtoms (IsAtom n) case
+    → AllByRecursion (IsAtom n) case
 case_atoms n [] k case h l e = absurd (omega arith)
-case_atoms n (x ∷ cases) zero case h l e = subst (AllAtoms (IsAtom n)) (sym e) (full_atoms n x h.0)
+case_atoms n (x ∷ cases) zero case h l e = subst (AllByRecursion (IsAtom n)) (sym e) (full_atoms n x h.0)
 case_atoms n (x ∷ cases) (suc k) case h l e = case_atoms n cases k case h.1 (omega arith) e
 
 -- ---- lists that grow

@@ -4,7 +4,7 @@ use Rattle.std.specs.List.{AllByRecursion}
 use Rattle.std.proofs.Common.{refl, sym, ◌∙◌, ap, subst, inl, inr, append_assoc, append-nil}
 use Rattle.dc_syntax.specs.declared.tree.Side.{Side}
 use Rattle.dc_affine.specs.declared.atom.Atom.{Atom}
-use Rattle.dc_affine.specs.Atoms.{IsAtom, IsFullAtom, AllAtoms}
+use Rattle.dc_affine.specs.Atoms.{IsAtom, IsFullAtom}
 use Rattle.dc_system.specs.declared.edges.System.{System}
 use Rattle.dc_system.specs.Shapes.{IsWellFormed}
 use Rattle.dc_cert.specs.declared.certificate.Liveness.{Liveness}
@@ -60,7 +60,7 @@ line_flag hyps n budget (Live k) o h =
     let m = refuted-met n hyps o (entry_of k.items) (shows_live-refutation hyps n (entry_of k.items) h.shows) in
     live_flag hyps (λ d. d m.point m.meets)
 
-atoms_in : (n : ℕ) (lists : List (List Atom)) (l : ℕ) → AllByRecursion (AllAtoms (IsFullAtom n)) lists → AllAtoms (IsAtom n) (slice_index_or lists l [])
+atoms_in : (n : ℕ) (lists : List (List Atom)) (l : ℕ) → AllByRecursion (AllByRecursion (IsFullAtom n)) lists → AllByRecursion (IsAtom n) (slice_index_or lists l [])
 atoms_in n [] l h = tt
 atoms_in n (x ∷ lists) zero h = full_atoms n x h.0
 atoms_in n (x ∷ lists) (suc l) h = atoms_in n lists l h.1
@@ -186,7 +186,7 @@ module _ (side : Side) (s : System) (cases : List (List Atom)) (live : List Bool
 
   module _ (w : IsWellFormed s) (kind : AreCandidates s.vars c) (fs : List LocFamily) (h : TellsGreatest side s cases live c budget fs) (printed : List (List Atom))
       (q : TellsPrinted side g c (stands_for s.vars c fs) budget printed) where
-    pub atoms : AllByRecursion (AllAtoms (IsFullAtom s.vars)) printed
+    pub atoms : AllByRecursion (AllByRecursion (IsFullAtom s.vars)) printed
     atoms = printed_are_atoms g c (stands_for s.vars c fs) printed q.questions kind q.printed_is
 
     pub inductive : IsInductive g cases (family_of printed)

@@ -1,6 +1,7 @@
 //! Which cases of the condition are live.
 ghost use Rattle.std.specs.Prelude.{◌≡◌, ◌∷◌, [], IfOk, IfErr, map};
-ghost use Rattle.dc_affine.specs.Atoms.{AllAtoms, IsAtom};
+ghost use Rattle.std.specs.List.{AllByRecursion};
+ghost use Rattle.dc_affine.specs.Atoms.{IsAtom};
 ghost use Rattle.dc_cert.specs.Ranges.{is_live};
 ghost use Rattle.dc_points.specs.Flags.{IsFlag};
 ghost use Rattle.dc_greatest.specs.Answers.{IsFault};
@@ -27,7 +28,7 @@ fn case_line<T: Tableau>(
     tableau: &mut T,
     budget: u64,
 ) -> Result<Liveness, InvFault>
-    requires atoms { AllAtoms (IsAtom params) case.now }
+    requires atoms { AllByRecursion (IsAtom params) case.now }
     ensures answer { IfOk result (IsLine case.now params budget) }
     ensures flag { IfOk result (λ l. IsFlag (is_live l) case.now) }
     ensures fault { IfErr result

@@ -1,6 +1,7 @@
 //! Both versions: systems and candidates, within their limits.
 ghost use Rattle.std.specs.Prelude.{◌≡◌, ◌++◌, IfOk, IfErr, OnOk, None, flat_map};
-ghost use Rattle.dc_affine.specs.Atoms.{AllAtoms, IsAtom};
+ghost use Rattle.std.specs.List.{AllByRecursion};
+ghost use Rattle.dc_affine.specs.Atoms.{IsAtom};
 ghost use Rattle.dc_program.specs.Programs.{IsProgram};
 ghost use Rattle.dc_rows.specs.Candidate.{AreCandidates, candidates_of};
 ghost use Rattle.dc_system.specs.Folded.{IsFolded};
@@ -51,7 +52,7 @@ fn list_candidates(
     pairs: bool,
 ) -> Result<Candidates, AnalyseFault>
     requires system { IsWellFormed s.now }
-    requires atoms { AllAtoms (IsAtom s.now.params) atoms.now }
+    requires atoms { AllByRecursion (IsAtom s.now.params) atoms.now }
     ensures list { IfOk result (λ c. c ≡ candidates_of s.now atoms.now pairs) }
     ensures kind { IfOk result (λ c. AreCandidates s.now.vars c) }
     ensures within { IfOk result

@@ -1,5 +1,6 @@
 -- The problems of a list of atoms, from their columns.
 use Rattle.std.specs.Prelude.{◌≡◌, ℕ, zero, suc, ◌+◌, ◌^◌, ◌<◌, ◌≤◌, eqb, if◌then◌else◌, List, [], ◌∷◌, ◌++◌, length, map, replicate, ℤ, pos, negsuc, slice_index_or, unsigned_abs, sum_by}
+use Rattle.std.specs.List.{AllByRecursion}
 use Rattle.std.proofs.Common.{refl, sym, ◌∙◌, ap, subst, arith, inl, inr, add-one}
 use Rattle.std.specs.declared.vec.Vec.{Vec}
 use Rattle.std.specs.declared.alloc.Global.{Global}
@@ -8,7 +9,7 @@ use Rattle.std.proofs.lemmas.List.{get_or_past, get_or_push, get_or_append_left,
 use Rattle.std.proofs.lemmas.List.Sums.{sum_by-cons, sum_by_push}
 use Rattle.dc_math.specs.Rational.{of_ℤ}
 use Rattle.dc_affine.specs.declared.atom.Atom.{Atom}
-use Rattle.dc_affine.specs.Atoms.{IsAtom, AllAtoms}
+use Rattle.dc_affine.specs.Atoms.{IsAtom}
 use Rattle.dc_lp.specs.declared.Entry.{Entry}
 use Rattle.dc_lp.specs.declared.Problem.{Problem}
 use Rattle.dc_lp.specs.Problems.{coefficient_in, coefficient, entries, IsColumn, IsWellFormed, linear_of}
@@ -37,7 +38,7 @@ column_more k rows f vs v h c = subst (AreColumnsOf (k + 1) rows f) (sym (items_
 })
 
 -- ---- atoms by number
-pub atom_at : (n : ℕ) (hyps : List Atom) (k : ℕ) (a : Atom) → AllAtoms (IsAtom n) hyps → k < length hyps → a ≡ slice_index_or hyps k a → IsAtom n a
+pub atom_at : (n : ℕ) (hyps : List Atom) (k : ℕ) (a : Atom) → AllByRecursion (IsAtom n) hyps → k < length hyps → a ≡ slice_index_or hyps k a → IsAtom n a
 atom_at n [] k a h l e = absurd (omega arith)
 atom_at n (x ∷ hyps) zero a h l e = subst (IsAtom n) (sym e) h.0
 atom_at n (x ∷ hyps) (suc k) a h l e = atom_at n hyps k a h.1 (omega arith) e
@@ -121,7 +122,7 @@ constants_at [] j = refl
 constants_at (a ∷ hyps) zero = refl
 constants_at (a ∷ hyps) (suc j) = constants_at hyps j
 
-constants_small : (n : ℕ) (hyps : List Atom) (j : ℕ) → AllAtoms (IsAtom n) hyps → unsigned_abs (slice_index_or (constants hyps) j (pos 0)) ≤ 2147483648
+constants_small : (n : ℕ) (hyps : List Atom) (j : ℕ) → AllByRecursion (IsAtom n) hyps → unsigned_abs (slice_index_or (constants hyps) j (pos 0)) ≤ 2147483648
 constants_small n [] j h = omega arith
 constants_small n (a ∷ hyps) zero h = h.0.constant_within
 constants_small n (a ∷ hyps) (suc j) h = constants_small n hyps j h.1
@@ -139,7 +140,7 @@ module _ (hyps : List Atom) (form : List ℤ) (p : Problem) (rows : p.rows ≡ l
       (λ i. ap of_ℤ (ap (λ (xs : List ℤ). slice_index_or xs i (pos 0)) b))
       (λ j. ap of_ℤ (ap (λ (xs : List ℤ). slice_index_or xs j (pos 0)) cost ∙ constants_at hyps j))
 
-  pub sup_problem-formed : length form < 18446744073709551616 → AllAtoms (IsAtom (length form)) hyps → sum_by unsigned_abs form < 2 ^ 70 → IsWellFormed p
+  pub sup_problem-formed : length form < 18446744073709551616 → AllByRecursion (IsAtom (length form)) hyps → sum_by unsigned_abs form < 2 ^ 70 → IsWellFormed p
   sup_problem-formed small o w = record {
     right_sides = ap length b ∙ sym rows;
     costs = ap length cost ∙ length-map hyps (λ a. a.c0) ∙ sym (columns-long p (length hyps) (length form) _ columns);

@@ -1,12 +1,13 @@
 -- From what `solve` tells of a problem to the answers.
 use Rattle.std.specs.Prelude.{◌≡◌, ◌↔◌, ℕ, List, [], ◌∷◌, length, ℤ, Result, Ok}
+use Rattle.std.specs.List.{AllByRecursion}
 use Rattle.std.proofs.Common.{sym, ◌∙◌, subst}
 use Rattle.std.specs.declared.vec.Vec.{Vec}
 use Rattle.std.specs.declared.alloc.Global.{Global}
 use Rattle.dc_math.specs.Rational.{ℚ, ◌≤ℚ◌}
 use Rattle.dc_frac.specs.declared.Frac.{Frac}
 use Rattle.dc_affine.specs.declared.atom.Atom.{Atom}
-use Rattle.dc_affine.specs.Atoms.{IsAtom, AllAtoms}
+use Rattle.dc_affine.specs.Atoms.{IsAtom}
 use Rattle.dc_lp.specs.Folds.{numbers}
 use Rattle.dc_lp.specs.Linear.{Linear}
 use Rattle.dc_lp.specs.Problems.{whole_at}
@@ -27,7 +28,7 @@ use Rattle.dc_points.proofs.Farkas.{solved-dead, refuted-met, best_is_least, ref
 use Rattle.dc_entail.specs.Answers.{TellsDead, TellsLive, TellsLeast, TellsNoBound, IsToldBy, TellsOnly}
 
 -- atoms within their sizes over n places have at most n coefficients
-pub atoms-over : (n : ℕ) (hyps : List Atom) → AllAtoms (IsAtom n) hyps → AreOver n hyps
+pub atoms-over : (n : ℕ) (hyps : List Atom) → AllByRecursion (IsAtom n) hyps → AreOver n hyps
 atoms-over n [] h = tt
 atoms-over n (a ∷ hyps) h = (h.0.few, atoms-over n hyps h.1)
 
@@ -43,7 +44,7 @@ telling p budget left q o r e f t s = record {
   shows = subst (λ q. Shows q r) e (subst (Shows q) f s);
 }
 
-module _ (hyps : List Atom) (n budget : ℕ) (left : Meaning) (h : AllAtoms (IsAtom n) hyps) where
+module _ (hyps : List Atom) (n budget : ℕ) (left : Meaning) (h : AllByRecursion (IsAtom n) hyps) where
   abbrev empty : Linear ℚ
   empty = rational (empty_problem hyps n)
 
@@ -66,7 +67,7 @@ module _ (hyps : List Atom) (n budget : ℕ) (left : Meaning) (h : AllAtoms (IsA
   pub empty-never_falls : (x r : Vec Frac Global) (k : ℕ) → Telling empty budget left (Unbounded x r k) → ⊥
   empty-never_falls x r k t = empty-no_ray n hyps (numbers r.items) t.shows.ray
 
-module _ (hyps : List Atom) (form : List ℤ) (budget : ℕ) (left : Meaning) (h : AllAtoms (IsAtom (length form)) hyps) where
+module _ (hyps : List Atom) (form : List ℤ) (budget : ℕ) (left : Meaning) (h : AllByRecursion (IsAtom (length form)) hyps) where
   abbrev stated : Linear ℚ
   stated = rational (sup_problem hyps form)
 

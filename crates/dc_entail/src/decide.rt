@@ -1,6 +1,7 @@
 //! The two questions.
 ghost use Rattle.std.specs.Prelude.{ℕ, ◌≡◌, ◌<◌, ◌^◌, IfOk, IfErr, length, sum_by, unsigned_abs};
-ghost use Rattle.dc_affine.specs.Atoms.{IsAtom, AllAtoms};
+ghost use Rattle.std.specs.List.{AllByRecursion};
+ghost use Rattle.dc_affine.specs.Atoms.{IsAtom};
 ghost use Rattle.dc_lp.specs.Problems.{IsWellFormed, linear_of};
 ghost use Rattle.dc_points.specs.Points.{IsDead};
 ghost use Rattle.dc_points.specs.Stated.{rational, empty_problem as empty_problem_of, sup_problem as sup_problem_of};
@@ -30,7 +31,7 @@ pub fn empty<T: Tableau>(
     tableau: &mut T,
     budget: u64,
 ) -> Result<Emptiness, SolveFault>
-    requires atoms { AllAtoms (IsAtom places) hyps.now }
+    requires atoms { AllByRecursion (IsAtom places) hyps.now }
     ensures answer { IfOk result (TellsEmptiness hyps.now places budget) }
     ensures fault { IfErr result (IsSolveFault (rational (empty_problem_of hyps.now places)) budget) }
     ensures exact { TellsOnly (rational (empty_problem_of hyps.now places)) budget result }
@@ -64,7 +65,7 @@ pub fn sup<T: Tableau>(
     tableau: &mut T,
     budget: u64,
 ) -> Result<Sup, SolveFault>
-    requires atoms { AllAtoms (IsAtom (length form.now)) hyps.now }
+    requires atoms { AllByRecursion (IsAtom (length form.now)) hyps.now }
     requires live { ¬ IsDead hyps.now }
     requires light { sum_by unsigned_abs form.now < 2 ^ 70 }
     ensures answer { IfOk result (TellsSup hyps.now form.now budget) }
@@ -86,7 +87,7 @@ pub fn sup<T: Tableau>(
 /// coefficients and right side 0, and a last equation with the constants and right side -1; no
 /// column costs.
 pub fn empty_problem(alloc: Global, hyps: &[Atom], places: usize) -> Result<Problem, AllocError>
-    requires atoms { AllAtoms (IsAtom places) hyps.now }
+    requires atoms { AllByRecursion (IsAtom places) hyps.now }
     ensures problem { IfOk result (λ p. linear_of p ≡ rational (empty_problem_of hyps.now places)) }
     ensures well_formed { IfOk result (λ p. IsWellFormed p) }
 {
@@ -112,7 +113,7 @@ pub fn empty_problem(alloc: Global, hyps: &[Atom], places: usize) -> Result<Prob
 /// equation for each place with the coefficients and the form's as right side. Here the atoms may
 /// be dead.
 pub fn sup_problem(alloc: Global, hyps: &[Atom], form: &[i128]) -> Result<Problem, AllocError>
-    requires atoms { AllAtoms (IsAtom (length form.now)) hyps.now }
+    requires atoms { AllByRecursion (IsAtom (length form.now)) hyps.now }
     requires light { sum_by unsigned_abs form.now < 2 ^ 70 }
     ensures problem { IfOk result (λ p. linear_of p ≡ rational (sup_problem_of hyps.now form.now)) }
     ensures well_formed { IfOk result (λ p. IsWellFormed p) }

@@ -1,6 +1,7 @@
 //! Lists of atoms, questions on the dense tableau, and answers by their numbers.
 ghost use Rattle.std.specs.Prelude.{◌≤◌, ◌<◌, ◌^◌, [], length, sum_by, unsigned_abs, IfOk};
-ghost use Rattle.dc_affine.specs.Atoms.{AllFit, AllAtoms, IsAtom};
+ghost use Rattle.std.specs.List.{AllByRecursion};
+ghost use Rattle.dc_affine.specs.Atoms.{AllFit, IsAtom};
 ghost use Rattle.dc_points.specs.Points.{MeetsAt, MeetsAll, whole_point};
 ghost use Rattle.dc_entail.specs.Answers.{TellsEmptiness};
 
@@ -52,7 +53,7 @@ pub(crate) fn ask_empty(
     places: usize,
     budget: u64,
 ) -> Result<Emptiness, SolveFault>
-    requires atoms { AllAtoms (IsAtom places) hyps.now }
+    requires atoms { AllByRecursion (IsAtom places) hyps.now }
     ensures { IfOk result (TellsEmptiness hyps.now places budget) }
 {
     empty(alloc, hyps, places, &mut Dense::new(alloc), budget)
@@ -66,7 +67,7 @@ pub(crate) fn ask_sup(
     form: &[i128],
     budget: u64,
 ) -> Result<Sup, SolveFault>
-    requires atoms { AllAtoms (IsAtom (length form.now)) hyps.now }
+    requires atoms { AllByRecursion (IsAtom (length form.now)) hyps.now }
     requires light { sum_by unsigned_abs form.now < 2 ^ 70 }
 {
     match ask_empty(alloc, hyps, form.len(), 1000) {
@@ -83,7 +84,7 @@ pub(crate) fn ask_sup_at_zero(
     form: &[i128],
     budget: u64,
 ) -> Result<Sup, SolveFault>
-    requires atoms { AllAtoms (IsAtom (length form.now)) hyps.now }
+    requires atoms { AllByRecursion (IsAtom (length form.now)) hyps.now }
     requires zero { MeetsAll (whole_point []) hyps.now }
     requires light { sum_by unsigned_abs form.now < 2 ^ 70 }
 {

@@ -1,8 +1,9 @@
 -- What is wrong with forms, conditions and statements is never want of memory.
+use Rattle.std.specs.List.{AllByRecursion}
 use Rattle.std.proofs.Common.{◌≢◌, sym, subst, ℕ, Bool, true, false, cond, ltb, List, [], ◌∷◌, ◌++◌, map, length, Some, None}
 use Rattle.std.specs.declared.option.Option.{Option}
 use Rattle.std.specs.Option.{option_or}
-use Rattle.dc_syntax.specs.Trees.{EachExpr, EachCond, AllStmts, EachStmt}
+use Rattle.dc_syntax.specs.Trees.{EachExpr, EachCond, EachStmt}
 use Rattle.dc_syntax.specs.declared.tree.Expr.{Expr, Expr-F, map-Expr, fold-roll-Expr}
 use Rattle.dc_syntax.specs.declared.tree.Expr.TheOpen as F
 use Rattle.dc_syntax.specs.declared.tree.Cond.{Cond, Cond-F, map-Cond, fold-roll-Cond}
@@ -122,7 +123,7 @@ joined_other (x ∷ xs) ys h k = (h.0, joined_other xs ys h.1 k)
 abbrev IsClean : ℕ → Stmt → Type 0
 IsClean n S = AreOther (faults_in n S)
 
-list_other : (n : ℕ) (A : List Stmt) → AllStmts (IsClean n) A → AreOther (joined (map (faults_in n) A))
+list_other : (n : ℕ) (A : List Stmt) → AllByRecursion (IsClean n) A → AreOther (joined (map (faults_in n) A))
 list_other n [] h = tt
 list_other n (S ∷ R) h = joined_other (faults_in n S) (joined (map (faults_in n) R)) h.0 (list_other n R h.1)
 

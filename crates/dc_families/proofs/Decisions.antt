@@ -3,7 +3,7 @@ use Rattle.std.specs.Prelude.{◌≡◌, ◌⊎◌, ℕ, Bool, true, false, ◌&
 use Rattle.std.proofs.Common.{refl, sym, ◌∙◌, inl, inr, arith}
 use Rattle.std.proofs.lemmas.Bool.{and_parts, and_from, cases_eq}
 use Rattle.std.proofs.lemmas.Int.{ints}
-use Rattle.dc_math.specs.Members.{Among, head, tail}
+use Rattle.dc_math.specs.Members.{Among, head, tail, each-++, each_left, each_right, each_among, among_each}
 use Rattle.dc_affine.specs.declared.atom.Atom.{Atom}
 use Rattle.dc_system.specs.declared.edges.Edge.{Edge}
 use Rattle.dc_system.specs.After.{is_affine_after, atom_after}
@@ -16,7 +16,7 @@ use Rattle.dc_families.specs.Moves.{at_start}
 use Rattle.dc_families.specs.Rounds.{MeetsFamily, CasesGive, EdgeGives, IsGiven, IsRound, HasCandidates}
 use Rattle.dc_families.specs.Laws.{HasRound}
 use Rattle.dc_families.proofs.Decided.{Decided, entailment_is_decided}
-use Rattle.dc_families.proofs.Lists.{differ, all_atoms, each_atom, all_left, all_right, all_both}
+use Rattle.dc_families.proofs.Lists.{differ}
 use Rattle.dc_families.proofs.Tests.{everything_is}
 
 -- ---- a test for what is decided
@@ -59,10 +59,10 @@ abbrev pub all_held : ℕ → Candidates → Family → ℕ → List Atom
 all_held n c J l = filter (J l) (candidate_atoms n c)
 
 pub met_all : (n : ℕ) (c : Candidates) (J : Family) (l : ℕ) (p : Point) → MeetsFamily J l p → MeetsAll p (all_held n c J l)
-met_all n c J l p m = all_atoms (MeetsAt p) _ (λ a k. m.each a (in_kept (J l) a (candidate_atoms n c) k).passes)
+met_all n c J l p m = among_each (MeetsAt p) _ (λ a k. m.each a (in_kept (J l) a (candidate_atoms n c) k).passes)
 
 pub all_met : (s : Graph) (c : Candidates) (J : Family) (l : ℕ) (p : Point) → HasCandidates s c J → MeetsAll p (all_held s.vars c J l) → MeetsFamily J l p
-all_met s c J l p h m = record { each = λ a j. each_atom (MeetsAt p) a _ m (kept_in (J l) a _ j (everything_is s c l a (h l a j)).1) }
+all_met s c J l p h m = record { each = λ a j. each_among (MeetsAt p) m (kept_in (J l) a _ j (everything_is s c l a (h l a j)).1) }
 
 -- ---- false is met nowhere
 below_zero : (d : ℤ) → pos 1 ≤ℤ d → pos 0 ≤ℤ (negsuc 0 *ℤ d +ℤ pos 0) → ⊥
@@ -82,13 +82,13 @@ module _ (s : Graph) (cases : List (List Atom)) (c : Candidates) (J : Family) (h
       atoms = all_held s.vars c J e.from ++ e.guard
 
       there : (p : Point) → MeetsFamily J e.from p → MeetsAll p e.guard → MeetsAll p atoms
-      there p m g = all_both (MeetsAt p) _ e.guard (met_all s.vars c J e.from p m) g
+      there p m g = each-++ (MeetsAt p) _ e.guard (met_all s.vars c J e.from p m) g
 
       back : (p : Point) → MeetsAll p atoms → MeetsFamily J e.from p
-      back p m = all_met s c J e.from p h (all_left (MeetsAt p) _ e.guard m)
+      back p m = all_met s c J e.from p h (each_left (MeetsAt p) _ e.guard m)
 
       guard : (p : Point) → MeetsAll p atoms → MeetsAll p e.guard
-      guard p m = all_right (MeetsAt p) (all_held s.vars c J e.from) e.guard m
+      guard p m = each_right (MeetsAt p) (all_held s.vars c J e.from) e.guard m
 
       by : (b : Bool) → is_affine_after e a.coefs ≡ b → Decided (EdgeGives s J e a)
       by true t = elim (entailment_is_decided atoms (atom_after s.vars e a)) [

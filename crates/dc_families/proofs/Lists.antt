@@ -4,8 +4,6 @@ use Rattle.std.specs.List.{range_with_len}
 use Rattle.std.proofs.Common.{refl, sym, ap₂, subst, inl, inr, arith}
 use Rattle.std.proofs.lemmas.Bool.{cases_lt}
 use Rattle.dc_math.specs.Members.{Among, head, tail, among-left, among-right, among-++}
-use Rattle.dc_affine.specs.declared.atom.Atom.{Atom}
-use Rattle.dc_affine.specs.Atoms.{AllAtoms}
 
 pub differ : {A : Type 0} → true ≡ false → A
 differ e = absurd (cc)
@@ -21,28 +19,6 @@ same_lists d [] [] l h = refl
 same_lists d [] (y ∷ ys) l h = absurd (omega arith)
 same_lists d (x ∷ xs) [] l h = absurd (omega arith)
 same_lists d (x ∷ xs) (y ∷ ys) l h = ap₂ ◌∷◌ (h 0 (omega arith)) (same_lists d xs ys (omega arith) (λ i k. h (suc i) (omega arith)))
-
--- ---- atoms
-pub all_atoms : (P : Atom → Type 0) (xs : List Atom) → ((a : Atom) → Among a xs → P a) → AllAtoms P xs
-all_atoms P [] h = tt
-all_atoms P (x ∷ xs) h = (h x head, all_atoms P xs (λ a m. h a (tail m)))
-
-pub each_atom : (P : Atom → Type 0) (a : Atom) (xs : List Atom) → AllAtoms P xs → Among a xs → P a
-each_atom P a [] h m = elim m [ ]
-each_atom P a (x ∷ xs) h head = h.0
-each_atom P a (x ∷ xs) h (tail m) = each_atom P a xs h.1 m
-
-pub all_left : (P : Atom → Type 0) (xs ys : List Atom) → AllAtoms P (xs ++ ys) → AllAtoms P xs
-all_left P [] ys h = tt
-all_left P (x ∷ xs) ys h = (h.0, all_left P xs ys h.1)
-
-pub all_right : (P : Atom → Type 0) (xs ys : List Atom) → AllAtoms P (xs ++ ys) → AllAtoms P ys
-all_right P [] ys h = h
-all_right P (x ∷ xs) ys h = all_right P xs ys h.1
-
-pub all_both : (P : Atom → Type 0) (xs ys : List Atom) → AllAtoms P xs → AllAtoms P ys → AllAtoms P (xs ++ ys)
-all_both P [] ys h k = k
-all_both P (x ∷ xs) ys h k = (h.0, all_both P xs ys h.1 k)
 
 -- ---- the first that passes a test
 pub find_is : {A : Type 0} (p : A → Bool) (x : A) (xs : List A) → find p xs ≡ Some x → Among x xs × (p x ≡ true)

@@ -4,7 +4,7 @@ use Rattle.std.specs.List.{range_with_len}
 use Rattle.std.proofs.Common.{refl, sym, ◌∙◌, ap, ap₂, subst, inl, inr, arith, append-nil}
 use Rattle.std.proofs.lemmas.Bool.{cases_lt}
 use Rattle.std.proofs.lemmas.List.FromFn.{length-map-range_with_len, get_or-map-range_with_len}
-use Rattle.dc_math.specs.Members.{Among, head, tail, each_among, none_among, among_cons, among-left, among-right, among-++, among_map, mapped_among}
+use Rattle.dc_math.specs.Members.{Among, head, tail, each_among, among_each, none_among, among_cons, among-left, among-right, among-++, among_map, mapped_among}
 use Rattle.dc_affine.specs.declared.atom.Atom.{Atom}
 use Rattle.dc_system.specs.Shapes.{IsWithin as EndsWithin}
 use Rattle.dc_points.specs.Points.{Point, MeetsAt, MeetsAll, Entails}
@@ -16,7 +16,7 @@ use Rattle.dc_families.specs.Rounds.{MeetsFamily, IsInductive, IsWithin, IsGreat
 use Rattle.dc_families.specs.Printed.{Question, atoms_of, Pruned, done, drops, keeps, IsPrinted, ArePrinted}
 use Rattle.dc_families.specs.Laws.{OnePrinted, HasPrinted, PrintedSayLists, PrintedAreInductive}
 use Rattle.dc_families.proofs.Decided.{entailment_is_decided}
-use Rattle.dc_families.proofs.Lists.{differ, all_atoms, each_atom, same_lists, past_none}
+use Rattle.dc_families.proofs.Lists.{differ, same_lists, past_none}
 use Rattle.dc_families.proofs.Tests.{has_among, among_has}
 use Rattle.dc_families.proofs.Upward.{least_is, lists_are_families}
 
@@ -123,10 +123,10 @@ module _ (c : Candidates) (J : Family) (l : ℕ) where
     Met rows = (r : ℕ) → Among r rows → MeetsAt p (atom r)
 
     met_list : (rows : List ℕ) → Met rows → MeetsAll p (atoms_of c J l rows)
-    met_list rows h = all_atoms (MeetsAt p) _ (λ a m. let f = mapped_among atom rows m in subst (MeetsAt p) (sym f.is) (h f.of f.among))
+    met_list rows h = among_each (MeetsAt p) _ (λ a m. let f = mapped_among atom rows m in subst (MeetsAt p) (sym f.is) (h f.of f.among))
 
     list_met : (rows : List ℕ) → MeetsAll p (atoms_of c J l rows) → Met rows
-    list_met rows h r m = each_atom (MeetsAt p) _ _ h (among_map atom m)
+    list_met rows h r m = each_among (MeetsAt p) h (among_map atom m)
 
     pruned_met : {rows back left : List ℕ} {asked : List Question} → Pruned c J l rows back asked left → Met left → Met (rows ++ back)
     pruned_met done h r m = h r m
@@ -211,7 +211,7 @@ module _ (s : Graph) (cases : List (List Atom)) (c : Candidates) (J : Family) (p
 
   -- where the printed atoms are met the family is
   met : (l : ℕ) (p : Point) → l < s.locs → MeetsFamily (family_of printed) l p → MeetsFamily J l p
-  met l p i m = (lists_are_families s c J l p kind g.candidates).0 ((printed_say_lists s c J printed asked l p h i).0 (all_atoms (MeetsAt p) _ (λ a k. m.each a (among_has a _ k))))
+  met l p i m = (lists_are_families s c J l p kind g.candidates).0 ((printed_say_lists s c J printed asked l p h i).0 (among_each (MeetsAt p) _ (λ a k. m.each a (among_has a _ k))))
 
   inductive : IsInductive s cases (family_of printed)
   inductive l a t =

@@ -2,7 +2,7 @@
 use Rattle.std.specs.Prelude.{◌≡◌, ℕ, zero, suc, ◌+◌, ◌<◌, Bool, true, false, cond, is_some, List, [], ◌∷◌, map, find, length, replicate, slice_index_or, ℤ, pos, negsuc, ◌+ℤ◌, ◌*ℤ◌, ◌≤ℤ◌, ◌<ℤ◌, Option, Some, None}
 use Rattle.std.proofs.Common.{refl, sym, ◌∙◌, ap, subst, inl, inr, arith}
 use Rattle.std.proofs.lemmas.Int.{ints}
-use Rattle.dc_math.specs.Members.{Among, among_cons, among_map, mapped_among, among_range, among_range_back, among_at}
+use Rattle.dc_math.specs.Members.{Among, each_among, among_each, among_cons, among_map, mapped_among, among_range, among_range_back, among_at}
 use Rattle.dc_math.specs.Integers.{≤ℤ-*ℤ_right}
 use Rattle.dc_math.specs.WholeVectors.{dot_ℤ}
 use Rattle.dc_affine.specs.declared.atom.Atom.{Atom}
@@ -19,7 +19,7 @@ use Rattle.dc_families.specs.Graphs.{Graph}
 use Rattle.dc_families.specs.Families.{Family, never, bounded, least_in, kept_rows, or_zero, least_atom, atoms_at}
 use Rattle.dc_families.specs.Rounds.{MeetsFamily, IsGiven, HasCandidates}
 use Rattle.dc_families.specs.Laws.{EverythingIsUpward, RoundsAreUpward, ListsAreFamilies}
-use Rattle.dc_families.proofs.Lists.{differ, all_atoms, each_atom, find_is}
+use Rattle.dc_families.proofs.Lists.{differ, find_is}
 use Rattle.dc_families.proofs.Decided.{dot-none}
 use Rattle.dc_families.proofs.Tests.{IsOne, is_never, is_bounded, candidate_is, bounded_candidate, in_everything, everything_is}
 
@@ -128,7 +128,7 @@ module _ (s : Graph) (c : Candidates) (J : Family) (l : ℕ) (p : Point) (kind :
       let f = among_at r [] c.rows i in
       let t' : J l (bounded (row_at c f.0) b) ≡ true = ap (λ q. J l (bounded q b)) f.2 ∙ ap (J l) (sym e) ∙ t in
       let g = kept_there c J l f.0 b f.1 k t' in
-      let w : MeetsAt p (least_atom c J l f.0) = each_atom (MeetsAt p) _ _ m (among_map (least_atom c J l) g.0) in
+      let w : MeetsAt p (least_atom c J l f.0) = each_among (MeetsAt p) m (among_map (least_atom c J l) g.0) in
       let v : MeetsAt p (bounded (row_at c f.0) g.1.0) = subst (λ o. MeetsAt p (bounded (row_at c f.0) (or_zero o))) g.1.1 w in
       let u = met_up p (row_at c f.0) g.1.0 b (first_least (λ b. J l (bounded (row_at c f.0) b)) c.bounds kind.rising g.1.0 b g.1.1 k t') v in
       subst (MeetsAt p) (ap (λ q. bounded q b) f.2 ∙ sym e) u
@@ -144,7 +144,7 @@ module _ (s : Graph) (c : Candidates) (J : Family) (l : ℕ) (p : Point) (kind :
   meets_list m = by (J l (never s.vars)) refl
     where
       rows : MeetsAll p (map (least_atom c J l) (kept_rows c J l))
-      rows = all_atoms (MeetsAt p) _ (λ a k. let f = mapped_among (least_atom c J l) (kept_rows c J l) k in subst (MeetsAt p) (sym f.is) (m.each _ (least_is c J l f.of f.among)))
+      rows = among_each (MeetsAt p) _ (λ a k. let f = mapped_among (least_atom c J l) (kept_rows c J l) k in subst (MeetsAt p) (sym f.is) (m.each _ (least_is c J l f.of f.among)))
 
       by : (v : Bool) → J l (never s.vars) ≡ v → MeetsAll p (cond v (never s.vars ∷ []) (map (least_atom c J l) (kept_rows c J l)))
       by true e = (m.each (never s.vars) e, tt)

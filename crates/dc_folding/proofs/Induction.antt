@@ -2,7 +2,7 @@
 use Rattle.std.specs.Prelude.{◌≡◌, ◌⊎◌, ℕ, ◌+◌, ◌-◌, ◌≤◌, Bool, true, false, eqb, if◌then◌else◌, List, ◌++◌, length, pos, ◌≤ℤ◌}
 use Rattle.std.proofs.Common.{refl, sym, ap, ◌∙◌, subst, arith, inl, inr}
 use Rattle.std.proofs.lemmas.Bool.{eqb-false, ne_eqb}
-use Rattle.dc_math.specs.Members.{Among, each_among}
+use Rattle.dc_math.specs.Members.{Among, each_left, each_right, each_among}
 use Rattle.dc_affine.specs.declared.atom.Atom.{Atom}
 use Rattle.dc_system.specs.declared.edges.Edge.{Edge}
 use Rattle.dc_system.specs.declared.edges.System.{System}
@@ -16,7 +16,7 @@ use Rattle.dc_points.specs.Points.{Point, MeetsAt, MeetsAll}
 use Rattle.dc_families.specs.Graphs.{graph_of}
 use Rattle.dc_families.specs.Families.{Family}
 use Rattle.dc_families.specs.Rounds.{MeetsFamily, EdgeGives, IsGiven, IsInductive, IsOver}
-use Rattle.dc_families.proofs.Lists.{differ, all_left, all_right}
+use Rattle.dc_families.proofs.Lists.{differ}
 use Rattle.dc_folding.specs.Folds.{IsFoldable, without_location, without_atoms}
 use Rattle.dc_folding.specs.Laws.{InductionIsKept}
 use Rattle.dc_folding.proofs.Moved.{moved, moved_meets, guard_moved, over_moved, affine_both, after_both}
@@ -69,10 +69,10 @@ module _ (s : System) (l : ℕ) (c : Edge) (w : IsWellFormed s) (h : IsFoldable 
   pub second_guard : (p : Point) → MeetsAll p c.guard → MeetsAll (moved s.vars first p) second.guard
   second_guard p m =
       guard_moved s.vars first p second.guard
-      (all_right (MeetsAt p) first.guard (atoms_at (s.vars + 1) second.guard (after s.vars first)) (subst (λ gs. MeetsAll p gs) guard_is m))
+      (each_right (MeetsAt p) first.guard (atoms_at (s.vars + 1) second.guard (after s.vars first)) (subst (λ gs. MeetsAll p gs) guard_is m))
 
   pub first_guard : (p : Point) → MeetsAll p c.guard → MeetsAll p first.guard
-  first_guard p m = all_left (MeetsAt p) first.guard (atoms_at (s.vars + 1) second.guard (after s.vars first)) (subst (λ gs. MeetsAll p gs) guard_is m)
+  first_guard p m = each_left (MeetsAt p) first.guard (atoms_at (s.vars + 1) second.guard (after s.vars first)) (subst (λ gs. MeetsAll p gs) guard_is m)
 
   module _ (cases : List (List Atom)) (K : Family) (over : IsOver s.vars K) (inductive : IsInductive (graph_of s) cases K) where
     -- the point after the first edge meets the family at the folded location

@@ -5,7 +5,7 @@ use Rattle.std.specs.List.{AllByRecursion}
 use Rattle.std.proofs.Common.{refl, sym, ap, ap₂, ◌∙◌, subst, arith, inl, inr, length-append}
 use Rattle.std.proofs.lemmas.List.{length-map, get_or-set_other}
 use Rattle.std.proofs.lemmas.List.Elements.{recursion_from_All}
-use Rattle.dc_math.specs.Members.{Among, each-map, among_at, at_among}
+use Rattle.dc_math.specs.Members.{Among, each-++, each_left, each_right, each-map, each_among, among_each, among_at, at_among}
 use Rattle.dc_math.specs.Rational.{ℚ, ◌+ℚ◌, ◌-ℚ◌, of_ℤ, of_ℤ-+ℤ}
 use Rattle.dc_math.specs.RationalRing.{ring, reads, same_form}
 use Rattle.dc_math.specs.Vectors.{dot}
@@ -32,7 +32,6 @@ use Rattle.dc_points.specs.Points.{Point, MeetsAt, MeetsAll, IsDead}
 use Rattle.dc_families.specs.Graphs.{graph_of}
 use Rattle.dc_families.specs.Families.{family_of}
 use Rattle.dc_families.specs.Rounds.{MeetsFamily, IsOver, IsInductive}
-use Rattle.dc_families.proofs.Lists.{all_atoms, each_atom, all_left, all_right, all_both}
 use Rattle.dc_families.proofs.Tests.{has_among, among_has}
 use Rattle.dc_claims.specs.declared.duty.Duty.{Duty}
 use Rattle.dc_claims.specs.declared.duty.Duty.TheVariants.{Along, AtExit, AtEntry}
@@ -124,20 +123,20 @@ module _ (s : System) (l : ℕ) (c : Edge) (w : IsWellFormed s) (h : IsFoldable 
 
     gives_first : Gives both (atoms first)
     gives_first p m =
-        all_both (MeetsAt p) (here first.from) first.guard (all_left (MeetsAt p) (here first.from) c.guard m)
-        (fold.first_guard s l c w h p (all_right (MeetsAt p) (here first.from) c.guard m))
+        each-++ (MeetsAt p) (here first.from) first.guard (each_left (MeetsAt p) (here first.from) c.guard m)
+        (fold.first_guard s l c w h p (each_right (MeetsAt p) (here first.from) c.guard m))
 
     to_family : (k : ℕ) (p : Point) → MeetsAll p (here k) → MeetsFamily (family_of lists) k p
-    to_family k p m = record { each = λ a j. each_atom (MeetsAt p) a (here k) m (has_among (here k) a j) }
+    to_family k p m = record { each = λ a j. each_among (MeetsAt p) m (has_among (here k) a j) }
 
     from_family : (k : ℕ) (p : Point) → MeetsFamily (family_of lists) k p → MeetsAll p (here k)
-    from_family k p m = all_atoms (MeetsAt p) (here k) (λ a j. m.each a (among_has a (here k) j))
+    from_family k p m = among_each (MeetsAt p) (here k) (λ a j. m.each a (among_has a (here k) j))
 
     gives_second : (p : Point) → MeetsAll p both → MeetsAll (moved n first p) (atoms second)
     gives_second p m =
-        let g = all_right (MeetsAt p) (here first.from) c.guard m in
-        let b = fold.between s l c w h cases (family_of lists) over inductive p (to_family first.from p (all_left (MeetsAt p) (here first.from) c.guard m)) (fold.first_guard s l c w h p g) in
-        all_both (MeetsAt (moved n first p)) (here second.from) second.guard
+        let g = each_right (MeetsAt p) (here first.from) c.guard m in
+        let b = fold.between s l c w h cases (family_of lists) over inductive p (to_family first.from p (each_left (MeetsAt p) (here first.from) c.guard m)) (fold.first_guard s l c w h p g) in
+        each-++ (MeetsAt (moved n first p)) (here second.from) second.guard
         (subst (λ k. MeetsAll (moved n first p) (here k)) (sym (fold.goes_out s l c w h)) (from_family l (moved n first p) b))
         (fold.second_guard s l c w h p g)
 

@@ -1,7 +1,7 @@
 -- What is certified over some atoms is certified over stronger ones.
 use Rattle.std.specs.Prelude.{ℕ, List, [], ◌∷◌, ℤ}
 use Rattle.std.specs.List.{AllByRecursion}
-use Rattle.dc_math.specs.Members.{each-weaker, each-map}
+use Rattle.dc_math.specs.Members.{each-weaker, each-++, each_left, each_right, each-map}
 use Rattle.dc_math.specs.Rational.{ℚ}
 use Rattle.dc_math.specs.Cones.{Cone}
 use Rattle.dc_syntax.specs.declared.tree.Side.{Side}
@@ -9,7 +9,6 @@ use Rattle.dc_affine.specs.declared.atom.Atom.{Atom}
 use Rattle.dc_points.specs.Points.{Point, MeetsAt, MeetsAll, Entails, IsDead}
 use Rattle.dc_syntax.specs.declared.tree.Side.TheVariants.{New, Old}
 use Rattle.dc_system.specs.declared.edges.Edge.{Edge}
-use Rattle.dc_families.proofs.Lists.{all_left, all_right, all_both}
 use Rattle.dc_claims.specs.declared.duty.Duty.{Duty}
 use Rattle.dc_claims.specs.declared.duty.Duty.TheVariants.{Along, AtExit, AtEntry}
 use Rattle.dc_claims.specs.Duties.{Pair, atoms_at, edge_at, edge_atoms, atoms_of, IsThere, IsOwed}
@@ -44,9 +43,9 @@ module _ (p : Pair) (new old : List (List Atom)) (s : AreStronger new old p) whe
 
   with_guard : (side : Side) (e : Edge) → Gives (edge_atoms q side e) (edge_atoms p side e)
   with_guard side e x m =
-      all_both (MeetsAt x) (atoms_at p side e.from) e.guard
-      (s side e.from x (all_left (MeetsAt x) (atoms_at q side e.from) e.guard m))
-      (all_right (MeetsAt x) (atoms_at q side e.from) e.guard m)
+      each-++ (MeetsAt x) (atoms_at p side e.from) e.guard
+      (s side e.from x (each_left (MeetsAt x) (atoms_at q side e.from) e.guard m))
+      (each_right (MeetsAt x) (atoms_at q side e.from) e.guard m)
 
   gives : (o : Duty) → Gives (atoms_of q o) (atoms_of p o)
   gives (Along New n) x m = with_guard New (edge_at p.new n) x m

@@ -2,7 +2,7 @@
 use Rattle.std.specs.Prelude.{◌≡◌, ℕ, ◌-◌, ◌<◌, Bool, true, false, List, [], ◌∷◌, ◌++◌, length, slice_index_or}
 use Rattle.std.proofs.Common.{refl, sym, ap, ◌∙◌, subst, arith, inl, inr, append-nil}
 use Rattle.std.proofs.lemmas.Bool.{cases_lt}
-use Rattle.dc_math.specs.Members.{Among, head, none_among, among_cons, among-left, among-right, among-++, mapped_among}
+use Rattle.dc_math.specs.Members.{Among, head, among_each, none_among, among_cons, among-left, among-right, among-++, mapped_among}
 use Rattle.dc_math.specs.Rational.{ℚ}
 use Rattle.dc_syntax.specs.declared.tree.Side.TheVariants.{New, Old}
 use Rattle.dc_affine.specs.declared.atom.Atom.{Atom}
@@ -24,7 +24,7 @@ use Rattle.dc_families.specs.Rounds.{IsOver, IsInductive, IsWithin, HasCandidate
 use Rattle.dc_families.proofs.Fixed.{has_greatest}
 use Rattle.dc_families.proofs.Folds.{systems_are_graphs}
 use Rattle.dc_families.proofs.Greatest.{one_greatest}
-use Rattle.dc_families.proofs.Lists.{differ, all_atoms, past_none}
+use Rattle.dc_families.proofs.Lists.{differ, past_none}
 use Rattle.dc_families.proofs.Prunes.{has_printed, one_printed_each, printed_say_lists, printed_are_inductive}
 use Rattle.dc_families.proofs.Reached.{candidates_over}
 use Rattle.dc_families.proofs.Tests.{has_among, among_has, in_everything, everything_is}
@@ -84,7 +84,7 @@ module _ (s : System) (cases : List (List Atom)) (c : Candidates) (printed : Lis
   -- they entail the lists of each inductive family of candidates
   printed_entail : AreCandidates s.vars c → (lists : List (List Atom)) → HasCandidates (graph_of s) c (family_of lists) → IsInductive (graph_of s) cases (family_of lists)
       → (l : ℕ) (x : Point) → MeetsAll x (slice_index_or printed l []) → MeetsAll x (slice_index_or lists l [])
-  printed_entail kind lists g i l x m = all_atoms (MeetsAt x) (slice_index_or lists l []) (λ a j. by a (among_has a (slice_index_or lists l []) j))
+  printed_entail kind lists g i l x m = among_each (MeetsAt x) (slice_index_or lists l []) (λ a j. by a (among_has a (slice_index_or lists l []) j))
     where
       by : (a : Atom) → family_of lists l a ≡ true → MeetsAt x a
       by a t =

@@ -1,5 +1,6 @@
 -- A walk through a graph that holds a list's edges, and no others from their numbers, begins with a run of the list.
 use Rattle.std.specs.Prelude.{◌≡◌, ℕ, zero, suc, ◌+◌, ◌≤◌, ◌<◌, List, [], ◌∷◌, ◌++◌, Bool, true, false, not, ◌||◌, ℤ, pos, ◌+ℤ◌, refl}
+use Rattle.std.specs.List.{AllByRecursion}
 use Rattle.std.proofs.Common.{sym, ◌∙◌, ap, subst, arith, inl, inr}
 use Rattle.std.proofs.lemmas.Int.{ints}
 use Rattle.std.proofs.Math.IntN.{+ℤ_idl}
@@ -10,7 +11,7 @@ use Rattle.dc_syntax.specs.declared.tree.Cond.{Cond}
 use Rattle.dc_syntax.specs.declared.tree.Expr.{Expr}
 use Rattle.dc_syntax.specs.Value.{State, truth}
 use Rattle.dc_syntax.specs.Run.{One, Run, skip, assign, any_of, between, tick, assume, if_true, if_false, if_left, if_right, while_done, while_turn, any_done, any_turn, none, more}
-use Rattle.dc_syntax.specs.Trees.{AllStmts, EachStmt}
+use Rattle.dc_syntax.specs.Trees.{EachStmt}
 use Rattle.dc_syntax.proofs.Inductions.{Stmt-induction}
 use Rattle.dc_affine.specs.Table.{Fact, all_of, some_of, facts_of}
 use Rattle.dc_affine.proofs.TableLaws.{facts_tell}
@@ -47,7 +48,7 @@ Within lo hi e = (lo ≤ e.from) × (e.from < hi)
 abbrev pub Ranged : Piece → Type 0
 Ranged p = (k l : ℕ) (e : Arrow) → Among e (p.place k l) → Within k (k + p.size) e
 
-pub placed_ranged : (A : List Stmt) → AllStmts (λ S. Ranged (piece S)) A → (k l : ℕ) (e : Arrow) → Among e (placed (pieces A) k l) → Within k (k + sizes (pieces A)) e
+pub placed_ranged : (A : List Stmt) → AllByRecursion (λ S. Ranged (piece S)) A → (k l : ℕ) (e : Arrow) → Among e (placed (pieces A) k l) → Within k (k + sizes (pieces A)) e
 placed_ranged [] h k l e i = elim i [ ]
 placed_ranged (S ∷ R) h k l e i =
     elim (among-++ ((piece S).place k (first (pieces R) (k + (piece S).size) l)) i) [
@@ -83,7 +84,7 @@ layer_ranged (If c A B) h k l e i =
       | inr j ↦ arms A B h k l e j
     ]
   where
-    arms : (A B : List Stmt) → AllStmts (λ S. Ranged (piece S)) A × AllStmts (λ S. Ranged (piece S)) B → (k l : ℕ) (e : Arrow) → Among e (placed (pieces A) (k + 1) l ++ placed (pieces B) (k + 1 + sizes (pieces A)) l) → Within k (k + (1 + (sizes (pieces A) + sizes (pieces B)))) e
+    arms : (A B : List Stmt) → AllByRecursion (λ S. Ranged (piece S)) A × AllByRecursion (λ S. Ranged (piece S)) B → (k l : ℕ) (e : Arrow) → Among e (placed (pieces A) (k + 1) l ++ placed (pieces B) (k + 1 + sizes (pieces A)) l) → Within k (k + (1 + (sizes (pieces A) + sizes (pieces B)))) e
     arms A B h k l e i =
         elim (among-++ (placed (pieces A) (k + 1) l) i) [
           | inl j ↦ let w = placed_ranged A h.0 (k + 1) l e j in (let u = w.0 in omega arith, let u = w.1 in omega arith)
@@ -109,7 +110,7 @@ layer_ranged (WhileAny A) h k l e (tail (tail i)) =
 pub piece_ranged : (S : Stmt) → Ranged (piece S)
 piece_ranged S = Stmt-induction (λ T. Ranged (piece T)) (λ L h. subst Ranged (sym (fold-roll-Stmt Piece layer L)) (layer_ranged L h)) S
 
-pub block_ranged : (A : List Stmt) → AllStmts (λ S. Ranged (piece S)) A
+pub block_ranged : (A : List Stmt) → AllByRecursion (λ S. Ranged (piece S)) A
 block_ranged [] = tt
 block_ranged (S ∷ R) = (piece_ranged S, block_ranged R)
 

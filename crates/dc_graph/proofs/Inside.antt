@@ -1,10 +1,11 @@
 -- The edges of a piece go to its own numbers, to the number at which the program goes on, or, where an arm is empty, there too.
 use Rattle.std.specs.Prelude.{◌≡◌, ◌⊎◌, ℕ, ◌+◌, ◌≤◌, ◌<◌, List, [], ◌∷◌, ◌++◌, true, false, refl}
+use Rattle.std.specs.List.{AllByRecursion}
 use Rattle.std.proofs.Common.{sym, ap, subst, arith, inl, inr}
 use Rattle.dc_math.specs.Members.{Among, among-one, among-two, among-++}
 use Rattle.dc_syntax.specs.declared.tree.Stmt.{Stmt, Stmt-F, out-Stmt, fold-roll-Stmt}
 use Rattle.dc_syntax.specs.declared.tree.Stmt.TheOpen.{Skip, Assign, AnyOf, Between, Tick, Assume, If, IfAny, While, WhileAny}
-use Rattle.dc_syntax.specs.Trees.{AllStmts, EachStmt}
+use Rattle.dc_syntax.specs.Trees.{EachStmt}
 use Rattle.dc_syntax.proofs.Inductions.{Stmt-induction}
 use Rattle.dc_affine.specs.Table.{Fact, facts_of}
 use Rattle.dc_graph.specs.Labels.{Label, Arrow, arrow, branch, idle}
@@ -37,7 +38,7 @@ begun : (A : List Stmt) (k l : ℕ) → Inside k (k + sizes (pieces A)) l (first
 begun [] k l = inr refl
 begun (S ∷ R) k l = let u = piece_positive S in inl (omega arith, omega arith)
 
-placed_aimed : (A : List Stmt) → AllStmts (λ S. Aimed (piece S)) A → (k l : ℕ) (e : Arrow) → Among e (placed (pieces A) k l) → Inside k (k + sizes (pieces A)) l e.to
+placed_aimed : (A : List Stmt) → AllByRecursion (λ S. Aimed (piece S)) A → (k l : ℕ) (e : Arrow) → Among e (placed (pieces A) k l) → Inside k (k + sizes (pieces A)) l e.to
 placed_aimed [] h k l e i = elim i [ ]
 placed_aimed (S ∷ R) h k l e i =
     elim (among-++ ((piece S).place k (first (pieces R) (k + (piece S).size) l)) i) [
@@ -66,14 +67,14 @@ right_begun A B k l = wider (k + 1 + sizes (pieces A)) (k + 1 + sizes (pieces A)
 turn_begun : (A : List Stmt) (k l : ℕ) → Inside k (k + (1 + sizes (pieces A))) l (first (pieces A) (k + 1) k)
 turn_begun A k l = through (k + 1) (k + 1 + sizes (pieces A)) k (k + (1 + sizes (pieces A))) k l (first (pieces A) (k + 1) k) (omega arith) (omega arith) (inl (omega arith, omega arith)) (begun A (k + 1) k)
 
-arms : (A B : List Stmt) → AllStmts (λ S. Aimed (piece S)) A × AllStmts (λ S. Aimed (piece S)) B → (k l : ℕ) (e : Arrow) → Among e (placed (pieces A) (k + 1) l ++ placed (pieces B) (k + 1 + sizes (pieces A)) l) → Inside k (k + (1 + (sizes (pieces A) + sizes (pieces B)))) l e.to
+arms : (A B : List Stmt) → AllByRecursion (λ S. Aimed (piece S)) A × AllByRecursion (λ S. Aimed (piece S)) B → (k l : ℕ) (e : Arrow) → Among e (placed (pieces A) (k + 1) l ++ placed (pieces B) (k + 1 + sizes (pieces A)) l) → Inside k (k + (1 + (sizes (pieces A) + sizes (pieces B)))) l e.to
 arms A B h k l e i =
     elim (among-++ (placed (pieces A) (k + 1) l) i) [
       | inl j ↦ wider (k + 1) (k + 1 + sizes (pieces A)) k (k + (1 + (sizes (pieces A) + sizes (pieces B)))) l e.to (omega arith) (omega arith) (placed_aimed A h.0 (k + 1) l e j)
       | inr j ↦ wider (k + 1 + sizes (pieces A)) (k + 1 + sizes (pieces A) + sizes (pieces B)) k (k + (1 + (sizes (pieces A) + sizes (pieces B)))) l e.to (omega arith) (omega arith) (placed_aimed B h.1 (k + 1 + sizes (pieces A)) l e j)
     ]
 
-turn : (A : List Stmt) → AllStmts (λ S. Aimed (piece S)) A → (k l : ℕ) (e : Arrow) → Among e (placed (pieces A) (k + 1) k) → Inside k (k + (1 + sizes (pieces A))) l e.to
+turn : (A : List Stmt) → AllByRecursion (λ S. Aimed (piece S)) A → (k l : ℕ) (e : Arrow) → Among e (placed (pieces A) (k + 1) k) → Inside k (k + (1 + sizes (pieces A))) l e.to
 turn A h k l e i = through (k + 1) (k + 1 + sizes (pieces A)) k (k + (1 + sizes (pieces A))) k l e.to (omega arith) (omega arith) (inl (omega arith, omega arith)) (placed_aimed A h (k + 1) k e i)
 
 layer_aimed : (L : Stmt-F Stmt) → EachStmt (λ S. Aimed (piece S)) L → Aimed (piece_in L)
@@ -119,7 +120,7 @@ layer_aimed (WhileAny A) h k l e i =
 piece_aimed : (S : Stmt) → Aimed (piece S)
 piece_aimed S = Stmt-induction (λ T. Aimed (piece T)) (λ L h. subst Aimed (sym (fold-roll-Stmt Piece layer L)) (layer_aimed L h)) S
 
-block_aimed : (A : List Stmt) → AllStmts (λ S. Aimed (piece S)) A
+block_aimed : (A : List Stmt) → AllByRecursion (λ S. Aimed (piece S)) A
 block_aimed [] = tt
 block_aimed (S ∷ R) = (piece_aimed S, block_aimed R)
 

@@ -6,7 +6,7 @@ use Rattle.std.specs.Option.{option_map}
 use Rattle.std.proofs.Common.{refl, sym, ◌∙◌, ap, ap₂, subst, inl, inr, arith}
 use Rattle.std.proofs.lemmas.Bool.{cases_lt}
 use Rattle.std.proofs.lemmas.Int.{ints}
-use Rattle.dc_math.specs.Members.{Among, head, among_at, at_among}
+use Rattle.dc_math.specs.Members.{Among, head, each_at, among_at, at_among}
 use Rattle.dc_affine.specs.declared.atom.Atom.{Atom}
 use Rattle.dc_rows.specs.declared.kinds.Candidates.{Candidates}
 use Rattle.dc_rows.specs.Rows.{Row, is_nonzero}
@@ -27,11 +27,6 @@ no_zeros : (n : ℕ) → list_all (λ c. int_eq c (pos 0)) (replicate n (pos 0))
 no_zeros zero = refl
 no_zeros (suc n) = no_zeros n
 
-row_kind : (P : Row → Type 0) (rows : List Row) (r : ℕ) → AllByRecursion P rows → r < length rows → P (slice_index_or rows r [])
-row_kind P [] r h l = absurd (omega arith)
-row_kind P (row ∷ rows) zero h l = h.0
-row_kind P (row ∷ rows) (suc r) h l = row_kind P rows r h.1 (omega arith)
-
 same_coefs : (a b : Atom) → a ≡ b → a.coefs ≡ b.coefs
 same_coefs a b e = ap (λ (x : Atom). x.coefs) e
 
@@ -42,7 +37,7 @@ module _ (n : ℕ) (c : Candidates) (kind : AreCandidates n c) where
   never_row : (r k : ℕ) → r < length c.rows → ¬ (never n ≡ atom_of c c.rows r k)
   never_row r k h e =
       let s = same_coefs (never n) (atom_of c c.rows r k) e in
-      let z = (row_kind (IsRow n) c.rows r kind.rows h).some in
+      let z = (each_at (IsRow n) c.rows r [] kind.rows h).some in
       differ (sym (subst (λ row. is_nonzero row ≡ true) (sym s) z) ∙ ap not (no_zeros n))
 
   one_row : (r i : ℕ) → r < length c.rows → i < length c.rows → row_at c r ≡ row_at c i → r ≡ i

@@ -1,6 +1,7 @@
 -- One edge in a round: where its source has false, where it is dead, and where it is live.
 use Rattle.std.specs.Prelude.{◌≡◌, ◌↔◌, ℕ, Bool, true, false, if◌then◌else◌, List, [], ◌∷◌, map, pos, ◌≤ℤ◌}
 use Rattle.std.proofs.Common.{refl, sym, ◌∙◌, ap, subst, inl, inr}
+use Rattle.dc_math.specs.Members.{each-++, each_left, each_right}
 use Rattle.dc_syntax.specs.declared.tree.Side.{Side}
 use Rattle.dc_affine.specs.declared.atom.Atom.{Atom}
 use Rattle.dc_system.specs.declared.edges.Edge.{Edge}
@@ -15,7 +16,7 @@ use Rattle.dc_families.specs.Graphs.{Graph}
 use Rattle.dc_families.specs.Families.{Family, never, atoms_at}
 use Rattle.dc_system.specs.After.{is_affine_after, atom_after}
 use Rattle.dc_families.specs.Rounds.{MeetsFamily, EdgeGives, HasCandidates}
-use Rattle.dc_families.proofs.Lists.{differ, all_left, all_right, all_both}
+use Rattle.dc_families.proofs.Lists.{differ}
 use Rattle.dc_families.proofs.False.{left_image, image}
 use Rattle.dc_families.proofs.Upward.{never_met, lists_are_families}
 use Rattle.dc_greatest.specs.declared.family.LocFamily.{LocFamily}
@@ -31,10 +32,10 @@ use Rattle.dc_greatest.proofs.Faults.{fault_from}
 module _ (side : Side) (s : Graph) (cases : List (List Atom)) (live : List Bool) (c : Candidates) (J : Family) (budget k : ℕ) (e : Edge) (kind : AreCandidates s.vars c) (h : HasCandidates s c J) where
   -- ---- what an edge gives, by the list of its atoms
   meets_atoms : (p : Point) → MeetsFamily J e.from p → MeetsAll p e.guard → MeetsAll p (edge_atoms s c J e)
-  meets_atoms p m g = all_both (MeetsAt p) _ e.guard ((lists_are_families s c J e.from p kind h).1 m) g
+  meets_atoms p m g = each-++ (MeetsAt p) _ e.guard ((lists_are_families s c J e.from p kind h).1 m) g
 
   atoms_meet : (p : Point) → MeetsAll p (edge_atoms s c J e) → MeetsFamily J e.from p × MeetsAll p e.guard
-  atoms_meet p m = ((lists_are_families s c J e.from p kind h).0 (all_left (MeetsAt p) _ e.guard m), all_right (MeetsAt p) (atoms_at s.vars c J e.from) e.guard m)
+  atoms_meet p m = ((lists_are_families s c J e.from p kind h).0 (each_left (MeetsAt p) _ e.guard m), each_right (MeetsAt p) (atoms_at s.vars c J e.from) e.guard m)
 
   pub dead_gives : IsDead (edge_atoms s c J e) → (a : Atom) → EdgeGives s J e a
   dead_gives d a p m g = absurd (d p (meets_atoms p m g))

@@ -1,13 +1,14 @@
 -- A row along a live edge, and by a live case: the least bound that the problem of its form tells.
 use Rattle.std.specs.Prelude.{◌≡◌, ◌⊎◌, ℕ, zero, suc, ◌+◌, ◌<◌, ◌≤◌, ◌^◌, Bool, true, false, cond, if◌then◌else◌, ◌&&◌, List, [], ◌∷◌, map, take, length, replicate, sum_by, unsigned_abs, slice_index_or, ℤ, pos, negsuc, ◌+ℤ◌, ◌*ℤ◌, ◌≤ℤ◌, Option, None}
+use Rattle.std.specs.List.{AllByRecursion}
 use Rattle.std.proofs.Common.{refl, sym, ◌∙◌, ap, ap₂, subst, inl, inr, arith}
 use Rattle.std.proofs.lemmas.Int.{ints}
-use Rattle.dc_math.specs.Members.{Among, head, tail, each_among, mapped_among, at_among}
+use Rattle.dc_math.specs.Members.{Among, head, tail, each_among, among_each, mapped_among, at_among}
 use Rattle.dc_math.specs.Rational.{of_ℤ}
 use Rattle.dc_syntax.specs.declared.tree.Side.{Side}
 use Rattle.dc_poly.specs.Sums.{zeros}
 use Rattle.dc_affine.specs.declared.atom.Atom.{Atom}
-use Rattle.dc_affine.specs.Atoms.{AllFit, AllAtoms, AllCases, IsAtom, IsFullAtom}
+use Rattle.dc_affine.specs.Atoms.{AllFit, AllCases, IsAtom, IsFullAtom}
 use Rattle.dc_system.specs.declared.edges.Edge.{Edge}
 use Rattle.dc_system.specs.declared.rows.RowAfter.{RowAfter}
 use Rattle.dc_system.specs.After.{is_affine_after, row_after_of}
@@ -32,7 +33,7 @@ use Rattle.dc_families.specs.Graphs.{Graph}
 use Rattle.dc_families.specs.Families.{Family, never, bounded, kept_rows, or_zero, least_atom, atoms_at}
 use Rattle.dc_families.specs.Moves.{at_start, edge_places, form_after}
 use Rattle.dc_families.specs.Rounds.{EdgeGives, HasCandidates}
-use Rattle.dc_families.proofs.Lists.{differ, all_atoms, each_atom, find_is}
+use Rattle.dc_families.proofs.Lists.{differ, find_is}
 use Rattle.dc_families.proofs.Upward.{kept_is}
 use Rattle.dc_moves.specs.Cuts.{with_guard}
 use Rattle.dc_moves.proofs.Cuts.{cuts_say_the_same, cuts_ask_the_same, cuts_ask_the_same_forms, cuts_are_atoms}
@@ -55,7 +56,7 @@ long-zeros : (n : ℕ) → length (replicate n (pos 0)) ≡ n
 long-zeros zero = refl
 long-zeros (suc n) = ap suc (long-zeros n)
 
-pub atoms_kind : (n : ℕ) (c : Candidates) (J : Family) (l : ℕ) → AreCandidates n c → AllAtoms (IsAtom n) (atoms_at n c J l)
+pub atoms_kind : (n : ℕ) (c : Candidates) (J : Family) (l : ℕ) → AreCandidates n c → AllByRecursion (IsAtom n) (atoms_at n c J l)
 atoms_kind n c J l kind = by (J l (never n))
   where
     one : (r : ℕ) → Among r (kept_rows c J l) → IsAtom n (least_atom c J l r)
@@ -69,9 +70,9 @@ atoms_kind n c J l kind = by (J l (never n))
           constant_within = subst (λ o. unsigned_abs (or_zero o) ≤ largest_bound) (sym k.1.1) (each_among (λ b. unsigned_abs b ≤ largest_bound) kind.bounds_within f.0);
         }
 
-    by : (b : Bool) → AllAtoms (IsAtom n) (cond b (never n ∷ []) (map (least_atom c J l) (kept_rows c J l)))
+    by : (b : Bool) → AllByRecursion (IsAtom n) (cond b (never n ∷ []) (map (least_atom c J l) (kept_rows c J l)))
     by true = (record { few = (let q = long-zeros n in omega arith); coefs_within = zeros_fit n; constant_within = omega (arith, ints) }, tt)
-    by false = all_atoms (IsAtom n) _ (λ a m. let f = mapped_among (least_atom c J l) (kept_rows c J l) m in subst (IsAtom n) (sym f.is) (one f.of f.among))
+    by false = among_each (IsAtom n) _ (λ a m. let f = mapped_among (least_atom c J l) (kept_rows c J l) m in subst (IsAtom n) (sym f.is) (one f.of f.among))
 
 -- ---- along an edge
 module _ (s : Graph) (c : Candidates) (J : Family) (kind : AreCandidates s.vars c) (h : HasCandidates s c J) (e : Edge) (shape : IsEdge s.vars e) where
@@ -87,7 +88,7 @@ module _ (s : Graph) (c : Candidates) (J : Family) (kind : AreCandidates s.vars 
   pub dead_whole : IsDead cut_atoms → IsDead (edge_atoms s c J e)
   dead_whole d p m = d p ((cuts_say_the_same s.vars e (atoms_at s.vars c J e.from) p shape).1 m)
 
-  pub cut_kind : AllAtoms (IsAtom places) cut_atoms
+  pub cut_kind : AllByRecursion (IsAtom places) cut_atoms
   cut_kind = cuts_are_atoms s.vars e (atoms_at s.vars c J e.from) shape (atoms_kind s.vars c J e.from kind)
 
   pub empty_same : empty_problem cut_atoms places ≡ empty_problem (edge_atoms s c J e) places
@@ -103,8 +104,8 @@ module _ (s : Graph) (c : Candidates) (J : Family) (kind : AreCandidates s.vars 
     pub form_long : length form ≡ places
     form_long = forms_have_places s.vars e (row_at c r)
 
-    pub form_kind : AllAtoms (IsAtom (length form)) cut_atoms
-    form_kind = subst (λ n. AllAtoms (IsAtom n) cut_atoms) (sym form_long) cut_kind
+    pub form_kind : AllByRecursion (IsAtom (length form)) cut_atoms
+    form_kind = subst (λ n. AllByRecursion (IsAtom n) cut_atoms) (sym form_long) cut_kind
 
     pub form_light : s.vars ≤ 10 → sum_by unsigned_abs form < 2 ^ 70
     form_light few = forms_are_light s.vars e (row_at c r) few shape (let q = row.one_each in omega arith) row.within
@@ -158,10 +159,6 @@ module _ (s : Graph) (c : Candidates) (J : Family) (kind : AreCandidates s.vars 
     row_refused true affine q f (inr t) = subst (λ g. IsFault budget (λ xs. xs ≡ asked true affine) (placed (place.EdgeRow side k r) g)) (sym t) tt
 
 -- ---- by a case
-case_atoms : (P : Atom → Type 0) (case : List Atom) (cases : List (List Atom)) → AllCases P cases → Among case cases → AllAtoms P case
-case_atoms P case _ h head = h.0
-case_atoms P case (x ∷ cases) h (tail m) = case_atoms P case cases h.1 m
-
 take_long : {A : Type 0} (k : ℕ) (xs : List A) → k ≤ length xs → length (take k xs) ≡ k
 take_long zero xs h = refl
 take_long (suc k) [] h = absurd (omega arith)
@@ -185,8 +182,8 @@ module _ (s : Graph) (c : Candidates) (kind : AreCandidates s.vars c) (params : 
   pub start_light : s.vars ≤ 10 → sum_by unsigned_abs start_form < 2 ^ 70
   start_light few = row_is_light start_form (take_fits s.params (row_at c r) entry.within) (let q = start_long in omega arith)
 
-  pub case_kind : (case : List Atom) (cases : List (List Atom)) → AllCases (IsFullAtom s.params) cases → Among case cases → AllAtoms (IsAtom (length start_form)) case
-  case_kind case cases h m = all_atoms (IsAtom (length start_form)) case (λ a i. subst (λ n. IsAtom n a) (sym start_long) (each_atom (IsFullAtom s.params) a case (case_atoms (IsFullAtom s.params) case cases h m) i).within)
+  pub case_kind : (case : List Atom) (cases : List (List Atom)) → AllCases (IsFullAtom s.params) cases → Among case cases → AllByRecursion (IsAtom (length start_form)) case
+  case_kind case cases h m = among_each (IsAtom (length start_form)) case (λ a i. subst (λ n. IsAtom n a) (sym start_long) (each_among (IsFullAtom s.params) (each_among (AllByRecursion (IsFullAtom s.params)) h m) i).within)
 
   nothing_more : (b : ℤ) → b +ℤ pos 0 ≡ b
   nothing_more b = omega (arith, ints)

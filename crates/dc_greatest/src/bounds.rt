@@ -1,8 +1,9 @@
 //! The least bound of a row.
 ghost use Rattle.std.specs.Prelude.{ℕ, ◌≡◌, ◌↔◌, ◌<◌, ◌≤◌, ◌^◌, ◌+ℤ◌, IsTrue, IfOk, IfErr, length, sum_by, unsigned_abs};
+ghost use Rattle.std.specs.List.{AllByRecursion};
 ghost use Rattle.dc_math.specs.Rational.{of_ℤ, ◌≤ℚ◌};
 ghost use Rattle.dc_frac.specs.Value.{value};
-ghost use Rattle.dc_affine.specs.Atoms.{IsAtom, AllAtoms};
+ghost use Rattle.dc_affine.specs.Atoms.{IsAtom};
 ghost use Rattle.dc_points.specs.Points.{IsDead, EntailsFrom};
 ghost use Rattle.dc_points.specs.Stated.{rational, sup_problem};
 ghost use Rattle.dc_entail.specs.Answers.{IsSolveFault};
@@ -84,7 +85,7 @@ pub(crate) fn least_bound<T: Tableau>(
     tableau: &mut T,
     budget: u64,
 ) -> Result<Option<usize>, SolveFault>
-    requires atoms { AllAtoms (IsAtom (length form.now)) hyps.now }
+    requires atoms { AllByRecursion (IsAtom (length form.now)) hyps.now }
     requires live { ¬ IsDead hyps.now }
     requires light { sum_by unsigned_abs form.now < 2 ^ 70 }
     requires constant { unsigned_abs constant.now < 2 ^ 100 }

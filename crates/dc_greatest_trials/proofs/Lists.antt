@@ -1,8 +1,9 @@
 -- Atoms and flags of the cases of a condition, one after another.
+use Rattle.std.specs.List.{AllByRecursion}
 use Rattle.std.proofs.Common.{◌≡◌, ℕ, zero, suc, ◌<◌, Bool, true, false, List, [], ◌∷◌, ◌++◌, length, take, refl, sym, ap, subst, arith}
 use Rattle.std.specs.Prelude.{slice_index_or}
 use Rattle.dc_affine.specs.declared.atom.Atom.{Atom}
-use Rattle.dc_affine.specs.Atoms.{AllAtoms, AllCases, IsAtom, IsFullAtom}
+use Rattle.dc_affine.specs.Atoms.{AllCases, IsAtom, IsFullAtom}
 use Rattle.dc_points.specs.Points.{IsDead, MeetsAll, Point}
 use Rattle.dc_points.specs.Flags.{IsFlag, AreFlags}
 
@@ -28,21 +29,21 @@ pub next_flag : (bs cs : List Bool) (cases : List (List Atom)) (k m : ℕ) (b : 
 next_flag bs cs cases k m b h d e l p q f g =
     rw (e, p) (subst (AreFlags (bs ++ b ∷ [])) (sym (take_next cases k d l)) (flags_more bs (take k cases) b (slice_index_or cases k d) f (subst (IsFlag b) q g)))
 
-case_at : (n : ℕ) (cases : List (List Atom)) (k : ℕ) (d : List Atom) → k < length cases → AllCases (IsFullAtom n) cases → AllAtoms (IsFullAtom n) (slice_index_or cases k d)
+case_at : (n : ℕ) (cases : List (List Atom)) (k : ℕ) (d : List Atom) → k < length cases → AllCases (IsFullAtom n) cases → AllByRecursion (IsFullAtom n) (slice_index_or cases k d)
 case_at n [] k d l h = absurd (omega arith)
 case_at n (c ∷ cases) zero d l h = h.0
 case_at n (c ∷ cases) (suc k) d l h = case_at n cases k d (omega arith) h.1
 
-pub case_here : (n : ℕ) (cases : List (List Atom)) (k : ℕ) (h d : List Atom) → k < length cases → h ≡ slice_index_or cases k d → AllCases (IsFullAtom n) cases → AllAtoms (IsFullAtom n) h
-case_here n cases k h d l q g = subst (AllAtoms (IsFullAtom n)) (sym q) (case_at n cases k d l g)
+pub case_here : (n : ℕ) (cases : List (List Atom)) (k : ℕ) (h d : List Atom) → k < length cases → h ≡ slice_index_or cases k d → AllCases (IsFullAtom n) cases → AllByRecursion (IsFullAtom n) h
+case_here n cases k h d l q g = subst (AllByRecursion (IsFullAtom n)) (sym q) (case_at n cases k d l g)
 
-within : (n : ℕ) (atoms : List Atom) → AllAtoms (IsFullAtom n) atoms → AllAtoms (IsAtom n) atoms
+within : (n : ℕ) (atoms : List Atom) → AllByRecursion (IsFullAtom n) atoms → AllByRecursion (IsAtom n) atoms
 within n [] h = tt
 within n (a ∷ atoms) h = (h.0.within, within n atoms h.1)
 
-joined : (n : ℕ) (all atoms : List Atom) → AllAtoms (IsAtom n) all → AllAtoms (IsAtom n) atoms → AllAtoms (IsAtom n) (all ++ atoms)
+joined : (n : ℕ) (all atoms : List Atom) → AllByRecursion (IsAtom n) all → AllByRecursion (IsAtom n) atoms → AllByRecursion (IsAtom n) (all ++ atoms)
 joined n [] atoms h g = g
 joined n (a ∷ all) atoms h g = (h.0, joined n all atoms h.1 g)
 
-pub more_atoms : (n : ℕ) (all new atoms : List Atom) → new ≡ all ++ atoms → AllAtoms (IsAtom n) all → AllAtoms (IsFullAtom n) atoms → AllAtoms (IsAtom n) new
-more_atoms n all new atoms e h g = subst (AllAtoms (IsAtom n)) (sym e) (joined n all atoms h (within n atoms g))
+pub more_atoms : (n : ℕ) (all new atoms : List Atom) → new ≡ all ++ atoms → AllByRecursion (IsAtom n) all → AllByRecursion (IsFullAtom n) atoms → AllByRecursion (IsAtom n) new
+more_atoms n all new atoms e h g = subst (AllByRecursion (IsAtom n)) (sym e) (joined n all atoms h (within n atoms g))

@@ -2,7 +2,7 @@
 use Rattle.std.specs.Prelude.{◌≡◌, Bool, List, length}
 use Rattle.std.specs.List.{AllByRecursion}
 use Rattle.dc_affine.specs.declared.atom.Atom.{Atom}
-use Rattle.dc_affine.specs.Atoms.{AllAtoms, IsFullAtom}
+use Rattle.dc_affine.specs.Atoms.{IsFullAtom}
 use Rattle.dc_system.specs.declared.edges.System.{System}
 use Rattle.dc_system.specs.Shapes.{IsWellFormed}
 use Rattle.dc_program.specs.Programs.{IsCondition}
@@ -25,5 +25,5 @@ pub record AreLent (s : System) (cases : List (List Atom)) (live : List Bool)
 pub record CanBeShown (s : System) (cases : List (List Atom))
     (printed : List (List Atom)) : Type 0 where
   pub one_each : length printed ≡ s.locs
-  pub atoms : AllByRecursion (AllAtoms (IsFullAtom s.vars)) printed
+  pub atoms : AllByRecursion (AllByRecursion (IsFullAtom s.vars)) printed
   pub inductive : IsInductive (graph_of s) cases (family_of printed)

@@ -1,6 +1,7 @@
 //! From a source and a condition to the printed atoms and what shows them.
 ghost use Rattle.std.specs.Prelude.{◌≡◌, ◌++◌, IfOk, OnOk};
-ghost use Rattle.dc_affine.specs.Atoms.{AllAtoms, AllCases, IsAtom, IsFullAtom};
+ghost use Rattle.std.specs.List.{AllByRecursion};
+ghost use Rattle.dc_affine.specs.Atoms.{AllCases, IsAtom, IsFullAtom};
 ghost use Rattle.dc_syntax.specs.declared.tree.Side.TheVariants.{New};
 ghost use Rattle.dc_points.specs.Flags.{IsFlag, AreFlags};
 ghost use Rattle.dc_greatest.specs.Answers.{TellsGreatest};
@@ -45,7 +46,7 @@ fn put_atoms(alloc: Global, all: &mut Vec<Atom>, case: &[Atom]) -> Result<(), Al
 // The atoms of all cases.
 fn all_atoms(alloc: Global, cases: &[Items<Atom>], places: usize) -> Result<Vec<Atom>, AllocError>
     requires { AllCases (IsFullAtom places) cases.now }
-    ensures { IfOk result (λ v. AllAtoms (IsAtom places) v.items) }
+    ensures { IfOk result (λ v. AllByRecursion (IsAtom places) v.items) }
 {
     let mut all = Vec::new(alloc);
     for case in cases {
@@ -56,7 +57,7 @@ fn all_atoms(alloc: Global, cases: &[Items<Atom>], places: usize) -> Result<Vec<
 
 // Whether a case is live.
 fn is_live(alloc: Global, case: &[Atom], places: usize) -> Result<bool, SolveFault>
-    requires { AllAtoms (IsFullAtom places) case.now }
+    requires { AllByRecursion (IsFullAtom places) case.now }
     ensures { IfOk result (λ b. IsFlag b case.now) }
 {
     match empty(alloc, case, places, &mut Dense::new(alloc), ENOUGH)? {

@@ -5,6 +5,7 @@ use Rattle.std.proofs.Common.{sym, ◌∙◌, ap, ap₂, subst, arith}
 use Rattle.std.proofs.Math.Nat.{pow-zero, pow-succ'}
 use Rattle.std.proofs.lemmas.Int.{ints}
 use Rattle.std.proofs.lemmas.List.Elements.{All-from_recursion, recursion_from_All}
+use Rattle.dc_math.specs.Members.{each-map_weaker}
 use Rattle.dc_math.specs.Integers.{0≤ℤ-*ℤ}
 use Rattle.dc_math.specs.WholeRing.{ring, reads, read_nat, same_form}
 use Rattle.dc_math.specs.WholeVectors.{dot_ℤ, dot_ℤ-nil}
@@ -16,7 +17,7 @@ use Rattle.dc_poly.proofs.Sizes.{weight-constant, weight-plus, weight-times, mul
 use Rattle.dc_poly.proofs.Degrees.{degree-constant, degree-unit_at, degree-plus, degree-times}
 use Rattle.dc_poly.proofs.Closed.{is_constant, is_variable, is_sum, is_product}
 use Rattle.dc_affine.specs.declared.atom.Atom.{Atom}
-use Rattle.dc_affine.specs.Atoms.{AllFit, IsAtom, AllAtoms, atom_value}
+use Rattle.dc_affine.specs.Atoms.{AllFit, IsAtom, atom_value}
 use Rattle.dc_handelman.specs.Choices.{Choice, Rises, IsChoice, choices_of}
 use Rattle.dc_handelman.proofs.Listed.{are_choices}
 use Rattle.dc_handelman.specs.Products.{linear_of, form_of, factor_at, times_choice, product_at, products_of, factor_weight, IsProduct, atom_at, choice_value, FactorsHold, HaveValues, StayAboveZero}
@@ -56,12 +57,12 @@ unfolding past
 value_form n a xs h =
     value-plus (constant_of a.c0 n) (linear_of n 0 a.coefs).terms xs ∙ ap₂ ◌+ℤ◌ (value-constant a.c0 n xs) (value_linear n 0 a.coefs xs (let l = h.few in omega arith))
 
-value_factor : (n i : ℕ) (hyps : List Atom) (xs : List ℤ) → AllAtoms (IsAtom n) hyps → value (factor_at (map (form_of n) hyps) i).terms xs ≡ atom_value (atom_at hyps i) xs
+value_factor : (n i : ℕ) (hyps : List Atom) (xs : List ℤ) → AllByRecursion (IsAtom n) hyps → value (factor_at (map (form_of n) hyps) i).terms xs ≡ atom_value (atom_at hyps i) xs
 value_factor n i [] xs h = refl
 value_factor n zero (a ∷ hyps) xs h = value_form n a xs h.0
 value_factor n (suc i) (a ∷ hyps) xs h = value_factor n i hyps xs h.1
 
-value_choice : (n : ℕ) (hyps : List Atom) (p : Polynomial) (c : Choice) (xs : List ℤ) → AllAtoms (IsAtom n) hyps
+value_choice : (n : ℕ) (hyps : List Atom) (p : Polynomial) (c : Choice) (xs : List ℤ) → AllByRecursion (IsAtom n) hyps
     → value (times_choice (map (form_of n) hyps) p c).terms xs ≡ value p.terms xs *ℤ choice_value hyps c xs
 value_choice n hyps p [] xs h = by_one (value p.terms xs)
   where
@@ -184,11 +185,11 @@ pub is_one : (n : ℕ) → n ≤ 11 → IsProduct n 0 (constant (pos 1) n)
 is_one n f = record { places = refl; kind = is_constant (pos 1) n f (omega arith); low = (let b = degree-constant (pos 1) n in omega arith); light = (let w = weight-constant (pos 1) n in rw pow-zero (omega arith)) }
 
 -- ---- all of them
-each_factor : (n : ℕ) (hyps : List Atom) → n ≤ 11 → AllAtoms (IsAtom n) hyps → AllByRecursion (IsProduct n 1) (map (form_of n) hyps)
+each_factor : (n : ℕ) (hyps : List Atom) → n ≤ 11 → AllByRecursion (IsAtom n) hyps → AllByRecursion (IsProduct n 1) (map (form_of n) hyps)
 each_factor n [] f h = tt
 each_factor n (a ∷ hyps) f h = (is_factor n a f h.0, each_factor n hyps f h.1)
 
-pub all_factors : (n : ℕ) (hyps : List Atom) → n ≤ 11 → AllAtoms (IsAtom n) hyps → All (IsProduct n 1) (map (form_of n) hyps)
+pub all_factors : (n : ℕ) (hyps : List Atom) → n ≤ 11 → AllByRecursion (IsAtom n) hyps → All (IsProduct n 1) (map (form_of n) hyps)
 all_factors n hyps f h = All-from_recursion (IsProduct n 1) (map (form_of n) hyps) (each_factor n hyps f h)
 
 -- the factor does not depend on what stands for one that is not there
@@ -207,14 +208,10 @@ length-forms : (n : ℕ) (hyps : List Atom) → length (map (form_of n) hyps) �
 length-forms n [] = refl
 length-forms n (a ∷ hyps) = ap suc (length-forms n hyps)
 
-each_mapped : (P : Choice → Type 0) (Q : Polynomial → Type 0) (f : Choice → Polynomial) → ((c : Choice) → P c → Q (f c)) → (cs : List Choice) → AllByRecursion P cs → AllByRecursion Q (map f cs)
-each_mapped P Q f s [] h = tt
-each_mapped P Q f s (c ∷ cs) h = (s c h.0, each_mapped P Q f s cs h.1)
-
-pub all_products : (n k : ℕ) (hyps : List Atom) → n ≤ 11 → k ≤ 3 → AllAtoms (IsAtom n) hyps → All (IsProduct n k) (products_of n hyps k)
+pub all_products : (n k : ℕ) (hyps : List Atom) → n ≤ 11 → k ≤ 3 → AllByRecursion (IsAtom n) hyps → All (IsProduct n k) (products_of n hyps k)
 all_products n k hyps f l h =
     All-from_recursion (IsProduct n k) (products_of n hyps k)
-    (each_mapped (IsChoice (length hyps) k) (IsProduct n k) (product_at n hyps) one (choices_of (length hyps) k) (recursion_from_All (IsChoice (length hyps) k) (choices_of (length hyps) k) (are_choices (length hyps) k).only))
+    (each-map_weaker (IsChoice (length hyps) k) (IsProduct n k) (product_at n hyps) one (choices_of (length hyps) k) (recursion_from_All (IsChoice (length hyps) k) (choices_of (length hyps) k) (are_choices (length hyps) k).only))
   where
     one : (c : Choice) → IsChoice (length hyps) k c → IsProduct n k (product_at n hyps c)
     one c i =

@@ -1,12 +1,13 @@
 -- One step of the walk that makes the list, and of the loop that counts it.
 use Rattle.std.specs.Prelude.{◌≡◌, ℕ, zero, suc, ◌+◌, ◌-◌, ◌*◌, ◌/◌, ◌≤◌, ◌<◌, List, [], ◌∷◌, ◌++◌, map, length, All, ℤ, pos, refl}
+use Rattle.std.specs.List.{AllByRecursion}
 use Rattle.std.proofs.Common.{sym, ◌∙◌, ap, ap₂, subst, arith, append_assoc, get_or, take, drop}
 use Rattle.std.proofs.lemmas.List.{map-append, take_all}
 use Rattle.dc_poly.specs.Terms.{Polynomial}
 use Rattle.dc_poly.specs.Sums.{constant, variable, sum_of, product_of}
 use Rattle.dc_poly.specs.Conditions.{CanAdd, CanMul}
 use Rattle.dc_affine.specs.declared.atom.Atom.{Atom}
-use Rattle.dc_affine.specs.Atoms.{AllFit, IsAtom, AllAtoms}
+use Rattle.dc_affine.specs.Atoms.{AllFit, IsAtom}
 use Rattle.dc_handelman.specs.Choices.{Choice, of_size, below, choices_of}
 use Rattle.dc_handelman.specs.Products.{linear_of, form_of, factor_at, times_choice, product_at, products_of, IsProduct}
 use Rattle.dc_handelman.proofs.Counts.{next, no_factors, count_small}
@@ -81,7 +82,7 @@ walk_step fs p f q i (suc k) o r w n h e d s g =
     ∙ g
 
 -- ---- the whole list
-pub list_factors : (n : ℕ) (hyps : List Atom) (fs : List Polynomial) (o : Polynomial) → n ≤ 11 → AllAtoms (IsAtom n) hyps → fs ≡ map (form_of n) hyps → o ≡ constant (pos 1) n → All (IsProduct o.places 1) fs
+pub list_factors : (n : ℕ) (hyps : List Atom) (fs : List Polynomial) (o : Polynomial) → n ≤ 11 → AllByRecursion (IsAtom n) hyps → fs ≡ map (form_of n) hyps → o ≡ constant (pos 1) n → All (IsProduct o.places 1) fs
 list_factors n hyps fs o l h e d = subst (λ (x : Polynomial). All (IsProduct x.places 1) fs) (sym d) (subst (All (IsProduct n 1)) (sym e) (all_factors n hyps l h))
 
 pub list_product : (n k : ℕ) (o : Polynomial) → n ≤ 11 → o ≡ constant (pos 1) n → IsProduct o.places k o
@@ -90,7 +91,7 @@ list_product n k o l e = subst (λ (x : Polynomial). IsProduct x.places k x) (sy
 pub list_end : (n : ℕ) (hyps : List Atom) (k j : ℕ) (o : List Polynomial) → j ≡ k + 1 → o ≡ map (product_at n hyps) (below (length hyps) j) → o ≡ products_of n hyps k
 list_end n hyps k j o e d = d ∙ ap (λ i. map (product_at n hyps) (below (length hyps) i)) (e ∙ (let y : k + 1 ≡ suc k = omega arith in y))
 
-pub list_kinds : (n : ℕ) (hyps : List Atom) (k : ℕ) (o : List Polynomial) → n ≤ 11 → k ≤ 3 → AllAtoms (IsAtom n) hyps → o ≡ products_of n hyps k → All (IsProduct n k) o
+pub list_kinds : (n : ℕ) (hyps : List Atom) (k : ℕ) (o : List Polynomial) → n ≤ 11 → k ≤ 3 → AllByRecursion (IsAtom n) hyps → o ≡ products_of n hyps k → All (IsProduct n k) o
 list_kinds n hyps k o f l h e = subst (All (IsProduct n k)) (sym e) (all_products n k hyps f l h)
 
 pub ruleset sums = (can_scale, can_add_constant)

@@ -1,10 +1,11 @@
 -- Products of affine atoms: as polynomials, and by their values.
 use Rattle.std.specs.Prelude.{◌≡◌, ℕ, suc, ◌*◌, ◌^◌, ◌≤◌, ◌<◌, true, List, [], ◌∷◌, map, length, All, Contains, slice_index_or, ℤ, pos, ◌*ℤ◌, ◌≤ℤ◌}
+use Rattle.std.specs.List.{AllByRecursion}
 use Rattle.std.specs.List.Sorted.{IsPermutation}
 use Rattle.dc_poly.specs.Terms.{Polynomial, IsPolynomial, degree_of, weight, value}
 use Rattle.dc_poly.specs.Sums.{constant, variable, sum_of, product_of}
 use Rattle.dc_affine.specs.declared.atom.Atom.{Atom}
-use Rattle.dc_affine.specs.Atoms.{IsAtom, AllAtoms, atom_value, all_hold}
+use Rattle.dc_affine.specs.Atoms.{IsAtom, atom_value, all_hold}
 use Rattle.dc_handelman.specs.Choices.{Choice, choices_of}
 
 -- ---- the left side of an atom, as a polynomial of n places
@@ -66,24 +67,24 @@ FactorsHold hyps (i ∷ c) xs =
 
 -- the value of a product at a point is the product of the values of its factors
 abbrev pub HaveValues : Type 0
-HaveValues = (n : ℕ) (hyps : List Atom) (c : Choice) (xs : List ℤ) → AllAtoms (IsAtom n) hyps
+HaveValues = (n : ℕ) (hyps : List Atom) (c : Choice) (xs : List ℤ) → AllByRecursion (IsAtom n) hyps
     → value (product_at n hyps c).terms xs ≡ choice_value hyps c xs
 
 -- and at least 0 where they are
 abbrev pub StayAboveZero : Type 0
-StayAboveZero = (n : ℕ) (hyps : List Atom) (c : Choice) (xs : List ℤ) → AllAtoms (IsAtom n) hyps
+StayAboveZero = (n : ℕ) (hyps : List Atom) (c : Choice) (xs : List ℤ) → AllByRecursion (IsAtom n) hyps
     → FactorsHold hyps c xs → pos 0 ≤ℤ value (product_at n hyps c).terms xs
 
 -- each product is at least 0 where all the atoms hold
 abbrev pub HoldTogether : Type 0
 HoldTogether =
-    (n k : ℕ) (hyps : List Atom) (xs : List ℤ) → AllAtoms (IsAtom n) hyps → all_hold hyps xs ≡ true
+    (n k : ℕ) (hyps : List Atom) (xs : List ℤ) → AllByRecursion (IsAtom n) hyps → all_hold hyps xs ≡ true
     → All (λ (p : Polynomial). pos 0 ≤ℤ value p.terms xs) (products_of n hyps k)
 
 -- ---- the order of the factors
 -- a product does not depend on the order of its factors
 abbrev pub OrderIsFree : Type 0
-OrderIsFree = (n : ℕ) (hyps : List Atom) (c d : Choice) → AllAtoms (IsAtom n) hyps → IsPermutation c d
+OrderIsFree = (n : ℕ) (hyps : List Atom) (c d : Choice) → AllByRecursion (IsAtom n) hyps → IsPermutation c d
     → product_at n hyps c ≡ product_at n hyps d
 
 -- at most k numbers below n, in any order, are a choice of the list in another order
@@ -93,5 +94,5 @@ EachIsSorted = (n k : ℕ) (c : Choice) → length c ≤ k → All (λ i. i < n)
 
 -- so the product of at most k of the atoms, in any order, stands among the products
 abbrev pub EachProductStands : Type 0
-EachProductStands = (n k : ℕ) (hyps : List Atom) (c : Choice) → AllAtoms (IsAtom n) hyps → length c ≤ k
+EachProductStands = (n k : ℕ) (hyps : List Atom) (c : Choice) → AllByRecursion (IsAtom n) hyps → length c ≤ k
     → All (λ i. i < length hyps) c → Contains (products_of n hyps k) (product_at n hyps c)

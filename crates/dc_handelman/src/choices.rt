@@ -1,6 +1,7 @@
 //! The products of at most so many atoms in their order, and their number.
 ghost use Rattle.std.specs.Prelude.{ℕ, ◌≡◌, ◌≤◌, ◌-◌, ◌++◌, All, length, map, IfOk, OnOk};
-ghost use Rattle.dc_affine.specs.Atoms.{AllAtoms, IsAtom};
+ghost use Rattle.std.specs.List.{AllByRecursion};
+ghost use Rattle.dc_affine.specs.Atoms.{IsAtom};
 ghost use Rattle.dc_handelman.specs.Choices.{choices_of, of_size};
 ghost use Rattle.dc_handelman.specs.Products.{IsProduct, products_of, times_choice};
 
@@ -20,7 +21,7 @@ pub fn products(alloc: Global, hyps: &[Atom], places: usize, k: u8) -> Result<Ve
     requires some { 1 ≤ k }
     requires low { k ≤ 3 }
     requires not_many { length (choices_of (length hyps.now) k) ≤ 8192 }
-    requires atoms { AllAtoms (IsAtom places) hyps.now }
+    requires atoms { AllByRecursion (IsAtom places) hyps.now }
     ensures list { IfOk result (λ v. v.items ≡ products_of places hyps.now k) }
     ensures kinds { IfOk result (λ v. All (IsProduct places k) v.items) }
 {

@@ -1,7 +1,8 @@
 //! The left side of an atom as a polynomial.
 ghost use Rattle.std.specs.Prelude.{ℕ, ◌≡◌, ◌≤◌, ◌+◌, length, map, IfOk};
+ghost use Rattle.std.specs.List.{AllByRecursion};
 ghost use Rattle.dc_poly.specs.Sums.{constant};
-ghost use Rattle.dc_affine.specs.Atoms.{AllAtoms, AllFit, IsAtom};
+ghost use Rattle.dc_affine.specs.Atoms.{AllFit, IsAtom};
 ghost use Rattle.dc_handelman.specs.Products.{form_of, linear_of};
 
 use dc_affine::Atom;
@@ -51,7 +52,7 @@ fn form(alloc: Global, atom: &Atom, places: usize) -> Result<Poly, AllocError>
 // The left sides of atoms.
 pub(crate) fn forms(alloc: Global, hyps: &[Atom], places: usize) -> Result<Vec<Poly>, AllocError>
     requires few { places ≤ 11 }
-    requires atoms { AllAtoms (IsAtom places) hyps.now }
+    requires atoms { AllByRecursion (IsAtom places) hyps.now }
     ensures { IfOk result (λ v. v.items ≡ map (form_of places) hyps.now) }
 {
     let mut list = Vec::new(alloc);

@@ -4,10 +4,10 @@ use Rattle.std.specs.List.{AllByRecursion}
 use Rattle.std.proofs.Common.{refl, sym, ◌∙◌, ap, ap₂, subst, arith, append_assoc, append-nil}
 use Rattle.std.proofs.lemmas.List.{take_all, length-take-le, get_or-take, get_or_default}
 use Rattle.std.proofs.lemmas.List.Sums.{sum_by-take-le}
-use Rattle.dc_math.specs.Members.{Among, head, tail, each_among, at_among}
+use Rattle.dc_math.specs.Members.{Among, head, tail, each_at_or, each_among, at_among}
 use Rattle.dc_math.specs.Rational.{of_ℤ}
 use Rattle.dc_affine.specs.declared.atom.Atom.{Atom}
-use Rattle.dc_affine.specs.Atoms.{AllFit, IsAtom, IsFullAtom, AllAtoms, AllCases}
+use Rattle.dc_affine.specs.Atoms.{AllFit, IsAtom, IsFullAtom, AllCases}
 use Rattle.dc_program.specs.Programs.{IsCondition}
 use Rattle.dc_lp.specs.Problems.{whole_at}
 use Rattle.dc_system.specs.declared.edges.Edge.{Edge}
@@ -31,7 +31,6 @@ use Rattle.dc_families.specs.Graphs.{graph_of}
 use Rattle.dc_families.specs.Families.{family_of}
 use Rattle.dc_families.specs.Moves.{at_start, edge_places, form_after}
 use Rattle.dc_families.specs.Rounds.{IsInductive}
-use Rattle.dc_families.proofs.Lists.{each_atom}
 use Rattle.dc_families.proofs.Tests.{has_among, among_has}
 use Rattle.dc_moves.specs.Cuts.{with_guard}
 use Rattle.dc_moves.proofs.Cuts.{cuts_ask_the_same, cuts_ask_the_same_forms, cuts_say_the_same, cuts_are_atoms, combines-cut, live-cut}
@@ -50,16 +49,7 @@ use Rattle.dc_invariant.proofs.Faults.{fault_part, fault_before, done_both}
 use Rattle.dc_invariant.proofs.Tells.{full_atoms, shown_keep, keep_done, line_done_dead, line_done_live}
 use Rattle.dc_invariant.proofs.Kept.{AreKeptFirst, kept_start, kept_next, kept_fault, kept_keeps, kept_done, flags_many, flag_at, flags_join, edges_join, next_at, cut_at, one_live, live_cut, live_next}
 
-all_at : {A : Type 0} (P : A → Type 0) (Q : List A → Type 0) (xs : List (List A)) (l : ℕ) → Q [] → AllByRecursion Q xs → Q (slice_index_or xs l [])
-all_at P Q [] l n h = n
-all_at P Q (x ∷ xs) zero n h = h.0
-all_at P Q (x ∷ xs) (suc l) n h = all_at P Q xs l n h.1
-
-case_atoms : (P : Atom → Type 0) {case : List Atom} {cases : List (List Atom)} → AllCases P cases → Among case cases → AllAtoms P case
-case_atoms P h head = h.0
-case_atoms P h (tail m) = case_atoms P h.1 m
-
-within_atoms : (n : ℕ) (atoms : List Atom) → AllAtoms (IsFullAtom n) atoms → AllAtoms (IsAtom n) atoms
+within_atoms : (n : ℕ) (atoms : List Atom) → AllByRecursion (IsFullAtom n) atoms → AllByRecursion (IsAtom n) atoms
 within_atoms n atoms h = full_atoms n n atoms refl h
 
 fit-front : (k : ℕ) (cs : List ℤ) → AllFit cs → AllFit (take k cs)
@@ -101,13 +91,13 @@ module _ (t : Keeping) (lent : IsKeeping t) where
   at l = printed_at (graph t) t.printed.now l
 
   -- ---- printed atoms
-  pub atoms_at : (l : ℕ) → AllAtoms (IsFullAtom n) (at l)
-  atoms_at l = all_at (IsFullAtom n) (AllAtoms (IsFullAtom n)) t.printed.now l tt lent.atoms
+  pub atoms_at : (l : ℕ) → AllByRecursion (IsFullAtom n) (at l)
+  atoms_at l = each_at_or (AllByRecursion (IsFullAtom n)) t.printed.now l [] tt lent.atoms
 
   pub full_at : (l : ℕ) (a : Atom) → Among a (at l) → IsFullAtom n a
-  full_at l a m = each_atom (IsFullAtom n) a (at l) (atoms_at l) m
+  full_at l a m = each_among (IsFullAtom n) (atoms_at l) m
 
-  pub in_atoms : (l : ℕ) → AllAtoms (IsAtom n) (at l)
+  pub in_atoms : (l : ℕ) → AllByRecursion (IsAtom n) (at l)
   in_atoms l = within_atoms n (at l) (atoms_at l)
 
   -- the list of a location as it is read
@@ -125,8 +115,8 @@ module _ (t : Keeping) (lent : IsKeeping t) where
     start_long : length form ≡ t.system.now.params
     start_long = ap length e ∙ length-take-le t.system.now.params a.coefs (let f = (full_at 0 a in_entry).one_each in let p = lent.system.params_first in omega arith)
 
-    pub entry_atoms : AllAtoms (IsAtom (length form)) case
-    entry_atoms = full_atoms t.system.now.params (length form) case start_long (case_atoms (IsFullAtom t.system.now.params) lent.condition.atoms m)
+    pub entry_atoms : AllByRecursion (IsAtom (length form)) case
+    entry_atoms = full_atoms t.system.now.params (length form) case start_long (each_among (AllByRecursion (IsFullAtom t.system.now.params)) lent.condition.atoms m)
 
     pub entry_light : sum_by unsigned_abs form < 2 ^ 70
     entry_light =
@@ -207,8 +197,8 @@ module _ (t : Keeping) (lent : IsKeeping t) where
         by true = omega arith
         by false = omega arith
 
-    pub cut_atoms : (hyps : List Atom) → hyps ≡ cut → AllAtoms (IsAtom places) hyps
-    cut_atoms hyps e' = subst (AllAtoms (IsAtom places)) (sym e') (cuts_are_atoms n e (at e.from) is_edge (in_atoms e.from))
+    pub cut_atoms : (hyps : List Atom) → hyps ≡ cut → AllByRecursion (IsAtom places) hyps
+    cut_atoms hyps e' = subst (AllByRecursion (IsAtom places)) (sym e') (cuts_are_atoms n e (at e.from) is_edge (in_atoms e.from))
 
     pub cut_live : (hyps : List Atom) → hyps ≡ cut → ¬ IsDead kept → ¬ IsDead hyps
     cut_live hyps e' live d = live (λ p k. subst IsDead e' d p ((cuts_say_the_same n e (at e.from) p is_edge).1 k))
@@ -255,13 +245,13 @@ module _ (t : Keeping) (lent : IsKeeping t) where
       entailed : Entails kept (atom_after n e a)
       entailed p k =
           let g = (lent.inductive e.to a (among_has a (at e.to) in_target)).edges e m refl p in
-          (g (record { each = λ b h. each_atom (MeetsAt p) b (at e.from) (left (at e.from) k) (has_among (at e.from) b h) }) (right (at e.from) k)).1
+          (g (record { each = λ b h. each_among (MeetsAt p) (left (at e.from) k) (has_among (at e.from) b h) }) (right (at e.from) k)).1
         where
-          left : (xs : List Atom) → AllAtoms (MeetsAt p) (xs ++ e.guard) → AllAtoms (MeetsAt p) xs
+          left : (xs : List Atom) → AllByRecursion (MeetsAt p) (xs ++ e.guard) → AllByRecursion (MeetsAt p) xs
           left [] h = tt
           left (x ∷ xs) h = (h.0, left xs h.1)
 
-          right : (xs : List Atom) → AllAtoms (MeetsAt p) (xs ++ e.guard) → AllAtoms (MeetsAt p) e.guard
+          right : (xs : List Atom) → AllByRecursion (MeetsAt p) (xs ++ e.guard) → AllByRecursion (MeetsAt p) e.guard
           right [] h = h
           right (x ∷ xs) h = right xs h.1
 
@@ -513,7 +503,7 @@ module _ (t : Keeping) (lent : IsKeeping t) where
       }
 
   -- ---- the exit, and all together
-  pub exit_in : AllAtoms (IsAtom n) (exit_atoms (graph t) t.printed.now)
+  pub exit_in : AllByRecursion (IsAtom n) (exit_atoms (graph t) t.printed.now)
   exit_in = in_atoms (t.system.now.locs - 1)
 
   exit_done : (l : Liveness) → IsLine (exit_atoms (graph t) t.printed.now) n t.budget l → IsDone t.budget (exit_asked t.side (graph t) t.printed.now)
@@ -558,13 +548,13 @@ module _ (t : Keeping) (lent : IsKeeping t) where
 
 -- ---- from what `keep_proofs` requires
 pub keeping_lent : (t : Keeping) (ps : List (List Atom)) → t.printed.now ≡ ps → IsWellFormed t.system.now → IsCondition t.system.now.params t.cases.now → AreFlags t.live.now t.cases.now
-    → length ps ≡ t.system.now.locs → AllByRecursion (AllAtoms (IsFullAtom t.system.now.vars)) ps → IsInductive (graph_of t.system.now) t.cases.now (family_of ps) → IsKeeping t
+    → length ps ≡ t.system.now.locs → AllByRecursion (AllByRecursion (IsFullAtom t.system.now.vars)) ps → IsInductive (graph_of t.system.now) t.cases.now (family_of ps) → IsKeeping t
 keeping_lent t ps e w k f o a i = record {
   system = w;
   condition = k;
   flags = f;
   one_each = ap length e ∙ o;
-  atoms = subst (AllByRecursion (AllAtoms (IsFullAtom t.system.now.vars))) (sym e) a;
+  atoms = subst (AllByRecursion (AllByRecursion (IsFullAtom t.system.now.vars))) (sym e) a;
   inductive = subst (λ qs. IsInductive (graph_of t.system.now) t.cases.now (family_of qs)) (sym e) i;
 }
 

@@ -5,11 +5,10 @@ use Rattle.std.specs.List.{AllByRecursion, range_with_len}
 use Rattle.std.proofs.Common.{refl, sym, ◌∙◌, ap, ap₂, subst, inl, inr, arith, append_assoc, append-nil, length-append}
 use Rattle.std.proofs.lemmas.Bool.{cases_Bool, cases_lt, cases_eq}
 use Rattle.std.proofs.lemmas.List.{take_all, length-take-le, length-drop, get_or_default, get_or-drop}
-use Rattle.dc_math.specs.Members.{Among, among_range_back}
+use Rattle.dc_math.specs.Members.{Among, each_is, among_range_back}
 use Rattle.dc_affine.specs.declared.atom.Atom.{Atom}
-use Rattle.dc_affine.specs.Atoms.{IsFullAtom, AllAtoms}
+use Rattle.dc_affine.specs.Atoms.{IsFullAtom}
 use Rattle.dc_system.specs.Shapes.{IsWellFormed}
-use Rattle.dc_system.proofs.Sums.{each_at}
 use Rattle.dc_entail.specs.declared.answer.Place.TheVariants as place
 use Rattle.dc_entail.specs.Asked.{Asked, ask, IsDone, AllDone}
 use Rattle.dc_points.specs.Stated.{atom_number, sup_problem}
@@ -53,7 +52,7 @@ module _ (t : Pruning) (l : ℕ) where
     pub back : List ℕ
     pub asked : List Question
     pub atoms_are : atoms ≡ map atom (take k rows ++ back)
-    pub kind : AllAtoms (IsFullAtom t.system.now.vars) atoms
+    pub kind : AllByRecursion (IsFullAtom t.system.now.vars) atoms
     pub live : ¬ IsDead atoms
     pub then : (left : List ℕ) (qs : List Question) → Pruned c J l (take k rows) back qs left → Pruned c J l rows [] (asked ++ qs) left
     pub done : AllDone t.budget (map (question t l) asked)
@@ -143,7 +142,7 @@ module _ (t : Pruning) (l : ℕ) where
           back = h.back;
           asked = h.asked ++ q ∷ [];
           atoms_are = y.1 ∙ without;
-          kind = subst (AllAtoms (IsFullAtom t.system.now.vars)) (sym y.1) (all_without (IsFullAtom t.system.now.vars) atoms k h.kind);
+          kind = subst (AllByRecursion (IsFullAtom t.system.now.vars)) (sym y.1) (all_without (IsFullAtom t.system.now.vars) atoms k h.kind);
           live = subst (λ xs. ¬ IsDead xs) (sym y.1) (live_without atoms k h.live);
           then = λ left qs p. subst (λ ps. Pruned c J l rows [] ps left) (sym (append_assoc h.asked (q ∷ []) qs)) (h.then left (q ∷ qs) (drops r split (decided y.0) p));
           done = more_done s.done;
@@ -153,7 +152,7 @@ module _ (t : Pruning) (l : ℕ) where
           back = r ∷ h.back;
           asked = h.asked ++ q ∷ [];
           atoms_are = y.1 ∙ whole;
-          kind = subst (AllAtoms (IsFullAtom t.system.now.vars)) (sym y.1) h.kind;
+          kind = subst (AllByRecursion (IsFullAtom t.system.now.vars)) (sym y.1) h.kind;
           live = subst (λ xs. ¬ IsDead xs) (sym y.1) h.live;
           then = λ left qs p. subst (λ ps. Pruned c J l rows [] ps left) (sym (append_assoc h.asked (q ∷ []) qs)) (h.then left (q ∷ qs) (keeps r split (λ e. y.0 (back_decided e)) p));
           done = more_done s.done;
@@ -217,11 +216,11 @@ module _ (t : Pruning) (l : ℕ) where
     least_same r h = ap (λ o. bounded (row_at c r) (or_zero o)) (sym (least_is_number t.system.now.vars t.system.now.locs c t.at.now lent.kind lent.shape l inside r h.1))
 
     bound_small : (k : ℕ) → k < length c.bounds → unsigned_abs (bound_at c k) ≤ 2147483648
-    bound_small k h = each_at (λ b. unsigned_abs b ≤ largest_bound) c.bounds k (bound_at c k) lent.kind.bounds_within h (get_or_default c.bounds k (pos 0) (bound_at c k) h)
+    bound_small k h = each_is (λ b. unsigned_abs b ≤ largest_bound) c.bounds k (bound_at c k) lent.kind.bounds_within h (get_or_default c.bounds k (pos 0) (bound_at c k) h)
 
     full : (r : ℕ) → HasLeast c here.least r → IsFullAtom t.system.now.vars (kept_atom c here.least r)
     full r h =
-        let row = each_at (IsRow t.system.now.vars) c.rows r (row_at c r) lent.kind.rows h.1 (get_or_default c.rows r [] (row_at c r) h.1) in
+        let row = each_is (IsRow t.system.now.vars) c.rows r (row_at c r) lent.kind.rows h.1 (get_or_default c.rows r [] (row_at c r) h.1) in
         record {
           one_each = row.one_each;
           within = record {
@@ -243,7 +242,7 @@ module _ (t : Pruning) (l : ℕ) where
         let n = never_false e in
         record {
           atoms_are = s ∙ m;
-          kind = subst (AllAtoms (IsFullAtom t.system.now.vars)) (sym s) (all_mapped (HasLeast c here.least) (IsFullAtom t.system.now.vars) (kept_atom c here.least) (rows_with here.least) have_least full);
+          kind = subst (AllByRecursion (IsFullAtom t.system.now.vars)) (sym s) (all_mapped (HasLeast c here.least) (IsFullAtom t.system.now.vars) (kept_atom c here.least) (rows_with here.least) have_least full);
           live = λ d. lent.honest l inside n (subst IsDead (s ∙ m ∙ ap (map atom) rows_are ∙ sym (whole n)) d);
         }
       where

@@ -4,9 +4,8 @@ use Rattle.std.specs.List.{AllByRecursion, range_with_len}
 use Rattle.std.proofs.Common.{refl, sym, ◌∙◌, ap, ap₂, subst, inl, inr, arith, add-one}
 use Rattle.std.proofs.lemmas.List.{take_more, get_or_read, map-id}
 use Rattle.std.proofs.lemmas.List.FromFn.{filter_of_map_range_with_len_more}
-use Rattle.dc_math.specs.Members.{Among, head, tail}
+use Rattle.dc_math.specs.Members.{Among, head, tail, each_is}
 use Rattle.dc_affine.specs.declared.atom.Atom.{Atom}
-use Rattle.dc_affine.specs.Atoms.{AllAtoms}
 use Rattle.dc_entail.specs.declared.answer.Place.{Place}
 use Rattle.dc_entail.specs.Asked.{ask, IsDone}
 use Rattle.dc_points.specs.Points.{MeetsAt, IsDead, Entails}
@@ -57,7 +56,7 @@ pub map_same_on : {A B : Type 0} (P : A → Type 0) (f g : A → B) (xs : List A
 map_same_on P f g [] a h = refl
 map_same_on P f g (x ∷ xs) a h = ap₂ ◌∷◌ (h x a.0) (map_same_on P f g xs a.1 h)
 
-pub all_mapped : {A : Type 0} (P : A → Type 0) (Q : Atom → Type 0) (f : A → Atom) (xs : List A) → AllByRecursion P xs → ((x : A) → P x → Q (f x)) → AllAtoms Q (map f xs)
+pub all_mapped : {A : Type 0} (P : A → Type 0) (Q : Atom → Type 0) (f : A → Atom) (xs : List A) → AllByRecursion P xs → ((x : A) → P x → Q (f x)) → AllByRecursion Q (map f xs)
 all_mapped P Q f [] a h = tt
 all_mapped P Q f (x ∷ xs) a h = (h x a.0, all_mapped P Q f xs a.1 h)
 
@@ -69,16 +68,11 @@ rows_push p n =
     ∙ ap (λ xs. filter p xs ++ cond (p n) (n ∷ []) []) (map-id (range_with_len 0 n))
 
 -- ---- atoms
-pub all_without : (P : Atom → Type 0) (atoms : List Atom) (k : ℕ) → AllAtoms P atoms → AllAtoms P (remove atoms k)
+pub all_without : (P : Atom → Type 0) (atoms : List Atom) (k : ℕ) → AllByRecursion P atoms → AllByRecursion P (remove atoms k)
 all_without P [] zero h = tt
 all_without P [] (suc k) h = tt
 all_without P (a ∷ atoms) zero h = h.1
 all_without P (a ∷ atoms) (suc k) h = (h.0, all_without P atoms k h.1)
-
-pub one_of : (P : Atom → Type 0) (atoms : List Atom) (k : ℕ) (a : Atom) → AllAtoms P atoms → k < length atoms → a ≡ slice_index_or atoms k a → P a
-one_of P [] k a h l e = absurd (omega arith)
-one_of P (b ∷ atoms) zero a h l e = subst P (sym e) h.0
-one_of P (b ∷ atoms) (suc k) a h l e = one_of P atoms k a h.1 (omega arith) e
 
 pub live_without : (atoms : List Atom) (k : ℕ) → ¬ IsDead atoms → ¬ IsDead (remove atoms k)
 live_without atoms k live d = live (λ p m. d p (all_without (MeetsAt p) atoms k m))

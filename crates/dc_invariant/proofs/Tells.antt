@@ -1,12 +1,13 @@
 -- From the answers of one problem to what is made of them.
 use Rattle.std.specs.Prelude.{◌≡◌, ◌↔◌, ℕ, ◌<◌, ◌≤◌, ◌^◌, Bool, true, false, List, [], ◌∷◌, length, take, sum_by, unsigned_abs, ℤ, IsTrue}
+use Rattle.std.specs.List.{AllByRecursion}
 use Rattle.std.proofs.Common.{refl, sym, ◌∙◌, ap, subst, arith}
 use Rattle.std.proofs.lemmas.List.{take_all}
 use Rattle.dc_math.specs.Rational.{of_ℤ, ◌≤ℚ◌}
 use Rattle.dc_frac.specs.declared.Frac.{Frac}
 use Rattle.dc_frac.specs.Value.{value}
 use Rattle.dc_affine.specs.declared.atom.Atom.{Atom}
-use Rattle.dc_affine.specs.Atoms.{IsAtom, IsFullAtom, AllAtoms}
+use Rattle.dc_affine.specs.Atoms.{IsAtom, IsFullAtom}
 use Rattle.dc_lp.specs.Folds.{numbers}
 use Rattle.dc_lp.specs.Problems.{whole_at}
 use Rattle.dc_pivots.specs.declared.Ending.TheVariants.{Optimal, Infeasible}
@@ -26,7 +27,7 @@ use Rattle.dc_invariant.specs.Lent.{TellsEntailed, IsLeastKeep, HasBound}
 use Rattle.dc_invariant.proofs.Vectors.{entry_is, combines_same, live_same}
 
 -- ---- what is required
-pub full_atoms : (n m : ℕ) (hyps : List Atom) → m ≡ n → AllAtoms (IsFullAtom n) hyps → AllAtoms (IsAtom m) hyps
+pub full_atoms : (n m : ℕ) (hyps : List Atom) → m ≡ n → AllByRecursion (IsFullAtom n) hyps → AllByRecursion (IsAtom m) hyps
 full_atoms n m [] e h = tt
 full_atoms n m (a ∷ hyps) e h = (subst (λ k. IsAtom k a) (sym e) h.0.within, full_atoms n m hyps e h.1)
 

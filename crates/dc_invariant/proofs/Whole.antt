@@ -3,9 +3,9 @@ use Rattle.std.specs.Prelude.{◌≡◌, ℕ, zero, suc, ◌<◌, ◌≤◌, Boo
 use Rattle.std.specs.List.{AllByRecursion}
 use Rattle.std.proofs.Common.{refl, sym, ap, subst, arith}
 use Rattle.std.proofs.lemmas.Int.{ints}
-use Rattle.dc_math.specs.Members.{Among, head, tail, at_among}
+use Rattle.dc_math.specs.Members.{Among, head, tail, each_left, at_each, each_among, among_each, at_among}
 use Rattle.dc_affine.specs.declared.atom.Atom.{Atom}
-use Rattle.dc_affine.specs.Atoms.{AllFit, IsFullAtom, AllAtoms}
+use Rattle.dc_affine.specs.Atoms.{AllFit, IsFullAtom}
 use Rattle.dc_rows.specs.declared.kinds.Candidates.{Candidates}
 use Rattle.dc_rows.specs.Bounds.{largest_bound}
 use Rattle.dc_rows.specs.Candidate.{row_at, IsRow, AreCandidates}
@@ -25,57 +25,40 @@ long-zeros zero = refl
 long-zeros (suc n) = ap suc (long-zeros n)
 
 module _ {A : Type 0} (P : A → Type 0) where
-  all_front : (xs ys : List A) → AllByRecursion P (xs ++ ys) → AllByRecursion P xs
-  all_front [] ys h = tt
-  all_front (x ∷ xs) ys h = (h.0, all_front xs ys h.1)
-
   last_too : (xs : List A) (y : A) → AllByRecursion P (xs ++ y ∷ []) → P y
   last_too [] y h = h.0
   last_too (x ∷ xs) y h = last_too xs y h.1
-
-  all_members : (xs : List A) → ((x : A) → Among x xs → P x) → AllByRecursion P xs
-  all_members [] h = tt
-  all_members (x ∷ xs) h = (h x head, all_members xs (λ y m. h y (tail m)))
-
-  each_member : (x : A) (xs : List A) → AllByRecursion P xs → Among x xs → P x
-  each_member x [] h m = elim m [ ]
-  each_member x (y ∷ xs) h head = h.0
-  each_member x (y ∷ xs) h (tail m) = each_member x xs h.1 m
-
-all_places : (Q : List Atom → Type 0) (lists : List (List Atom)) → ((l : ℕ) → l < length lists → Q (slice_index_or lists l [])) → AllByRecursion Q lists
-all_places Q [] h = tt
-all_places Q (x ∷ lists) h = (h 0 (omega arith), all_places Q lists (λ l i. h (suc l) (omega arith)))
 
 module _ (n : ℕ) (c : Candidates) (J : Family) (l : ℕ) (kind : AreCandidates n c) where
   abbrev IsFullRow : ℕ → Type 0
   IsFullRow r = IsFullAtom n (least_atom c J l r)
 
   kept_full : AllByRecursion IsFullRow (kept_rows c J l)
-  kept_full = all_members IsFullRow (kept_rows c J l) one
+  kept_full = among_each IsFullRow (kept_rows c J l) one
     where
       one : (r : ℕ) → Among r (kept_rows c J l) → IsFullRow r
       one r m =
           let k = kept_is c J l r m in
           let f = find_is (λ b. J l (bounded (row_at c r) b)) k.1.0 c.bounds k.1.1 in
-          let row = each_member (IsRow n) (row_at c r) c.rows kind.rows (at_among [] c.rows r k.0) in
+          let row = each_among (IsRow n) kind.rows (at_among [] c.rows r k.0) in
           record {
             one_each = row.one_each;
             within = record {
               few = (let q = row.one_each in omega arith);
               coefs_within = row.within;
-              constant_within = subst (λ o. unsigned_abs (or_zero o) ≤ largest_bound) (sym k.1.1) (each_member (λ b. unsigned_abs b ≤ largest_bound) k.1.0 c.bounds kind.bounds_within f.0);
+              constant_within = subst (λ o. unsigned_abs (or_zero o) ≤ largest_bound) (sym k.1.1) (each_among (λ b. unsigned_abs b ≤ largest_bound) kind.bounds_within f.0);
             };
           }
 
   left_full : {rows back left : List ℕ} {asked : List Question} → Pruned c J l rows back asked left
       → AllByRecursion IsFullRow rows → AllByRecursion IsFullRow back → AllByRecursion IsFullRow left
   left_full done h k = k
-  left_full (drops {front = f} r e n rest) h k = left_full rest (all_front IsFullRow f (r ∷ []) (subst (AllByRecursion IsFullRow) e h)) k
+  left_full (drops {front = f} r e n rest) h k = left_full rest (each_left IsFullRow f (r ∷ []) (subst (AllByRecursion IsFullRow) e h)) k
   left_full (keeps {front = f} r e n rest) h k =
       let w = subst (AllByRecursion IsFullRow) e h in
-      left_full rest (all_front IsFullRow f (r ∷ []) w) (last_too IsFullRow f r w, k)
+      left_full rest (each_left IsFullRow f (r ∷ []) w) (last_too IsFullRow f r w, k)
 
-  printed_full : (printed : List Atom) (asked : List Question) → IsPrinted c J l n printed asked → AllAtoms (IsFullAtom n) printed
+  printed_full : (printed : List Atom) (asked : List Question) → IsPrinted c J l n printed asked → AllByRecursion (IsFullAtom n) printed
   printed_full printed asked h = by (J l (never n)) refl
     where
       false_full : IsFullAtom n (never n)
@@ -84,12 +67,12 @@ module _ (n : ℕ) (c : Candidates) (J : Family) (l : ℕ) (kind : AreCandidates
         within = record { few = (let q = long-zeros n in omega arith); coefs_within = zeros_fit n; constant_within = omega (arith, ints) };
       }
 
-      by : (b : Bool) → J l (never n) ≡ b → AllAtoms (IsFullAtom n) printed
-      by true e = subst (AllAtoms (IsFullAtom n)) (sym (h.dead e).0) (false_full, tt)
+      by : (b : Bool) → J l (never n) ≡ b → AllByRecursion (IsFullAtom n) printed
+      by true e = subst (AllByRecursion (IsFullAtom n)) (sym (h.dead e).0) (false_full, tt)
       by false e =
           let p = h.other e in
-          subst (AllAtoms (IsFullAtom n)) (sym p.is) (all_mapped IsFullRow (IsFullAtom n) (least_atom c J l) p.left (left_full p.pruned kept_full tt) (λ r f. f))
+          subst (AllByRecursion (IsFullAtom n)) (sym p.is) (all_mapped IsFullRow (IsFullAtom n) (least_atom c J l) p.left (left_full p.pruned kept_full tt) (λ r f. f))
 
 pub printed_are_atoms : PrintedAreAtoms
 printed_are_atoms s c J printed asked kind h =
-    all_places (AllAtoms (IsFullAtom s.vars)) printed (λ l i. printed_full s.vars c J l kind _ _ (h.each l (let e = h.one_each in omega arith)))
+    at_each (AllByRecursion (IsFullAtom s.vars)) printed [] (λ l i. printed_full s.vars c J l kind _ _ (h.each l (let e = h.one_each in omega arith)))

@@ -3,7 +3,7 @@ use Rattle.std.specs.Prelude.{◌≡◌, ℕ, Bool, List}
 use Rattle.dc_syntax.specs.declared.tree.Side.{Side}
 use Rattle.std.specs.List.{AllByRecursion}
 use Rattle.dc_affine.specs.declared.atom.Atom.{Atom}
-use Rattle.dc_affine.specs.Atoms.{IsFullAtom, AllAtoms}
+use Rattle.dc_affine.specs.Atoms.{IsFullAtom}
 use Rattle.dc_cert.specs.declared.certificate.SideCert.{SideCert}
 use Rattle.dc_entail.specs.Asked.{Asked}
 use Rattle.dc_rows.specs.declared.kinds.Candidates.{Candidates}
@@ -32,7 +32,7 @@ PrintedAreAtoms =
     (s : Graph) (c : Candidates) (J : Family) (printed : List (List Atom))
     (asked : List (List Question))
     → AreCandidates s.vars c → ArePrinted s c J printed asked
-    → AllByRecursion (AllAtoms (IsFullAtom s.vars)) printed
+    → AllByRecursion (AllByRecursion (IsFullAtom s.vars)) printed
 
 -- ---- keeps
 abbrev pub HasKeeping : Type 0

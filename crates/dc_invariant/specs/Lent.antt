@@ -4,7 +4,7 @@ use Rattle.std.specs.Option.{option_map}
 use Rattle.std.specs.List.{AllByRecursion, range_with_len}
 use Rattle.dc_math.specs.Rational.{ℚ, ◌≤ℚ◌}
 use Rattle.dc_affine.specs.declared.atom.Atom.{Atom}
-use Rattle.dc_affine.specs.Atoms.{IsFullAtom, AllAtoms}
+use Rattle.dc_affine.specs.Atoms.{IsFullAtom}
 use Rattle.dc_lp.specs.Problems.{whole_at}
 use Rattle.dc_system.specs.declared.edges.Edge.{Edge}
 use Rattle.dc_system.specs.Shapes.{IsWellFormed}
@@ -94,7 +94,7 @@ pub record TellsLocation (t : Pruning) (l : ℕ) (printed : List Atom) : Type 0 
 -- the rows of a location that are kept, and their atoms with their least bounds
 pub record IsListed (t : Pruning) (l : ℕ) (rows : List ℕ) (atoms : List Atom) : Type 0 where
   pub atoms_are : atoms ≡ atoms_of t.candidates.now (family t) l rows
-  pub kind : AllAtoms (IsFullAtom t.system.now.vars) atoms
+  pub kind : AllByRecursion (IsFullAtom t.system.now.vars) atoms
   pub live : ¬ IsDead atoms
 
 -- what is asked of them
@@ -131,7 +131,7 @@ pub record IsKeeping (t : Keeping) : Type 0 where
   pub condition : IsCondition t.system.now.params t.cases.now
   pub flags : AreFlags t.live.now t.cases.now
   pub one_each : length t.printed.now ≡ t.system.now.locs
-  pub atoms : AllByRecursion (AllAtoms (IsFullAtom t.system.now.vars)) t.printed.now
+  pub atoms : AllByRecursion (AllByRecursion (IsFullAtom t.system.now.vars)) t.printed.now
   pub inductive : IsInductive (graph_of t.system.now) t.cases.now (family_of t.printed.now)
 
 abbrev pub graph : Keeping → Graph

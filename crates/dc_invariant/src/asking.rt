@@ -1,8 +1,9 @@
 //! One problem of an analysis at its place.
 ghost use Rattle.std.specs.Prelude.{◌≡◌, ◌↔◌, ◌≤◌, ◌<◌, ◌^◌, ◌∷◌, [], IsTrue, IfOk, IfErr, length, sum_by, unsigned_abs};
+ghost use Rattle.std.specs.List.{AllByRecursion};
 ghost use Rattle.dc_math.specs.Rational.{of_ℤ, ◌≤ℚ◌};
 ghost use Rattle.dc_frac.specs.Value.{value as value_of};
-ghost use Rattle.dc_affine.specs.Atoms.{IsAtom, IsFullAtom, AllAtoms};
+ghost use Rattle.dc_affine.specs.Atoms.{IsAtom, IsFullAtom};
 ghost use Rattle.dc_cert.specs.Ranges.{is_live};
 ghost use Rattle.dc_points.specs.Points.{IsDead};
 ghost use Rattle.dc_points.specs.Stated.{empty_problem, sup_problem};
@@ -53,7 +54,7 @@ pub(crate) fn entails<T: Tableau>(
     budget: u64,
 ) -> Result<bool, InvFault>
     requires few { vars ≤ 10 }
-    requires atoms { AllAtoms (IsFullAtom vars) hyps.now }
+    requires atoms { AllByRecursion (IsFullAtom vars) hyps.now }
     requires atom { IsFullAtom vars atom.now }
     requires live { ¬ IsDead hyps.now }
     ensures answer { IfOk result (TellsEntailed place hyps.now atom.now budget) }
@@ -77,7 +78,7 @@ pub(crate) fn keep<T: Tableau>(
     tableau: &mut T,
     budget: u64,
 ) -> Result<Sparse, InvFault>
-    requires atoms { AllAtoms (IsAtom (length form.now)) hyps.now }
+    requires atoms { AllByRecursion (IsAtom (length form.now)) hyps.now }
     requires live { ¬ IsDead hyps.now }
     requires light { sum_by unsigned_abs form.now < 2 ^ 70 }
     requires bounded { HasBound hyps.now form.now }
@@ -101,7 +102,7 @@ pub(crate) fn line<T: Tableau>(
     tableau: &mut T,
     budget: u64,
 ) -> Result<Liveness, InvFault>
-    requires atoms { AllAtoms (IsAtom places) hyps.now }
+    requires atoms { AllByRecursion (IsAtom places) hyps.now }
     ensures answer { IfOk result (IsLine hyps.now places budget) }
     ensures flag { IfOk result (λ l. IsFlag (is_live l) hyps.now) }
     ensures fault { IfErr result

@@ -2,7 +2,7 @@
 ghost use Rattle.std.specs.Prelude.{◌≡◌, ◌<◌, ◌∷◌, [], IfOk, IfErr, true, length};
 ghost use Rattle.std.specs.List.{AllByRecursion};
 ghost use Rattle.dc_math.specs.Members.{Among};
-ghost use Rattle.dc_affine.specs.Atoms.{IsFullAtom, AllAtoms};
+ghost use Rattle.dc_affine.specs.Atoms.{IsFullAtom};
 ghost use Rattle.dc_program.specs.Programs.{IsCondition};
 ghost use Rattle.dc_system.specs.Shapes.{IsWellFormed};
 ghost use Rattle.dc_points.specs.Points.{IsDead};
@@ -314,7 +314,7 @@ pub fn keep_proofs<T: Tableau>(
     requires condition { IsCondition s.now.params cases.now }
     requires flags { AreFlags live.now cases.now }
     requires one_each { length printed ≡ s.now.locs }
-    requires atoms { AllByRecursion (AllAtoms (IsFullAtom s.now.vars)) printed }
+    requires atoms { AllByRecursion (AllByRecursion (IsFullAtom s.now.vars)) printed }
     requires inductive { IsInductive (graph_of s.now) cases.now (family_of printed) }
     ensures answer { IfOk result (TellsKeeps side (graph_of s.now) cases.now live.now printed budget) }
     ensures fault { IfErr result

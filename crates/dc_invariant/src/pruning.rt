@@ -1,7 +1,7 @@
 //! Printed atoms.
 ghost use Rattle.std.specs.Prelude.{◌≡◌, ◌≤◌, ◌<◌, ◌∷◌, [], IfOk, IfErr, OnOk, ◌++◌, if◌then◌else◌, is_some, length, insert, map, replicate, pos};
 ghost use Rattle.std.specs.List.{AllByRecursion};
-ghost use Rattle.dc_affine.specs.Atoms.{IsFullAtom, AllAtoms};
+ghost use Rattle.dc_affine.specs.Atoms.{IsFullAtom};
 ghost use Rattle.dc_system.specs.Shapes.{IsWellFormed};
 ghost use Rattle.dc_points.specs.Points.{IsDead};
 ghost use Rattle.dc_rows.specs.Candidate.{AreCandidates};
@@ -134,7 +134,7 @@ fn prune_one<T: Tableau>(
 ) -> Result<(), InvFault>
     requires few { vars ≤ 10 }
     requires inside { number < length atoms.old.items }
-    requires atoms { AllAtoms (IsFullAtom vars) atoms.old.items }
+    requires atoms { AllByRecursion (IsFullAtom vars) atoms.old.items }
     requires live { ¬ IsDead atoms.old.items }
     ensures answer { OnOk result (IsOneStep place number budget atoms.old.items atoms.new.items) }
     ensures fault { IfErr result (IsFault budget (Only (one_asked place number atoms.old.items ∷ []))) }

@@ -6,6 +6,7 @@ use Rattle.std.proofs.lemmas.Bool.{lt-ltb, le-ltb}
 use Rattle.std.proofs.lemmas.List.{length-map}
 use Rattle.std.proofs.lemmas.List.Sums.{sum_by-cons, sum_by_push}
 use Rattle.std.proofs.lemmas.List.FromFn.{length-range_with_len, length-map-range_with_len}
+use Rattle.dc_math.specs.Members.{each-++}
 use Rattle.dc_syntax.specs.declared.tree.Side.{Side}
 use Rattle.dc_syntax.specs.declared.tree.Side.TheVariants.{New, Old}
 use Rattle.dc_syntax.specs.declared.tree.Count.TheVariants as count
@@ -66,10 +67,6 @@ below_sum g (o ∷ os) n h zero d l = (let e = sum_by-cons g o os in omega arith
 below_sum g (o ∷ os) n h (suc k) d l = below_sum g os n (let e = sum_by-cons g o os in omega arith) k d (omega arith)
 
 -- ---- the duties by flags are there, and few
-all_++ : {A : Type 0} (P : A → Type 0) (xs ys : List A) → AllByRecursion P xs → AllByRecursion P ys → AllByRecursion P (xs ++ ys)
-all_++ P [] ys h g = g
-all_++ P (x ∷ xs) ys h g = (h.0, all_++ P xs ys h.1 g)
-
 numbers_below : (P : ℕ → Type 0) (g : ℕ → Duty) (Q : Duty → Type 0) (k : ℕ) (bs : List Bool) → ((i : ℕ) → i < k + length bs → Q (g i)) → AllByRecursion Q (map g (numbers_set k bs))
 numbers_below P g Q k [] h = tt
 numbers_below P g Q k (true ∷ bs) h = (h k (omega arith), numbers_below P g Q (suc k) bs (λ i l. h i (omega arith)))
@@ -99,10 +96,10 @@ all_of_recursion P (x ∷ xs) h (suc k) d l = all_of_recursion P xs h.1 k d (ome
 pub duties_there : (p : Pair) (f : Flags) → HasFlags p f → All (IsThere p) (duties_of f)
 duties_there p f h =
     all_of_recursion (IsThere p) (duties_of f)
-    (all_++ (IsThere p) (duties_along New f.new_edges) _ (along_there p New f.new_edges h.new)
-    (all_++ (IsThere p) (duty_at_exit New f.new_exit) _ (exit_there p New f.new_exit)
-    (all_++ (IsThere p) (duties_along Old f.old_edges) _ (along_there p Old f.old_edges h.old)
-    (all_++ (IsThere p) (duty_at_exit Old f.old_exit) _ (exit_there p Old f.old_exit) (numbers_below (λ i. Unit {0}) AtEntry (IsThere p) 0 f.cases (λ i l. (let e = h.cases in omega arith)))))))
+    (each-++ (IsThere p) (duties_along New f.new_edges) _ (along_there p New f.new_edges h.new)
+    (each-++ (IsThere p) (duty_at_exit New f.new_exit) _ (exit_there p New f.new_exit)
+    (each-++ (IsThere p) (duties_along Old f.old_edges) _ (along_there p Old f.old_edges h.old)
+    (each-++ (IsThere p) (duty_at_exit Old f.old_exit) _ (exit_there p Old f.old_exit) (numbers_below (λ i. Unit {0}) AtEntry (IsThere p) 0 f.cases (λ i l. (let e = h.cases in omega arith)))))))
 
 pub duties_few : (p : Pair) (f : Flags) → IsPair p → HasFlags p f → length (duties_of f) ≤ 2048
 duties_few p f pair h =

@@ -2,7 +2,7 @@
 use Rattle.std.specs.Prelude.{◌≡◌, ◌⊎◌, ℕ, ◌+◌, ◌*◌, ◌<◌, ◌≤◌, List, [], ◌∷◌, ◌++◌, flat_map, length, map, take, slice_index_or}
 use Rattle.std.specs.List.{AllByRecursion}
 use Rattle.std.proofs.Common.{sym, ◌∙◌, ap, subst, arith, inl, inr}
-use Rattle.dc_math.specs.Members.{Among}
+use Rattle.dc_math.specs.Members.{Among, each_left, each_right}
 use Rattle.dc_math.specs.OrderedLists.{Ordered}
 use Rattle.dc_poly.specs.declared.monomial.Term.{Term}
 use Rattle.dc_poly.specs.Terms.{Before, Exponents, Polynomial, TermList}
@@ -25,14 +25,6 @@ use Rattle.dc_match.specs.Answers.{IsFilled, IsFillFault}
 use Rattle.dc_match.proofs.Counting.{all_of_recursion, both_count, equations_there, equations_within, take_all, take_at}
 
 -- ---- what a block has is in its monomials
-first_ones : {A : Type 0} (P : A → Type 0) (xs ys : List A) → AllByRecursion P (xs ++ ys) → AllByRecursion P xs
-first_ones P [] ys h = tt
-first_ones P (x ∷ xs) ys h = (h.0, first_ones P xs ys h.1)
-
-last_ones : {A : Type 0} (P : A → Type 0) (xs ys : List A) → AllByRecursion P (xs ++ ys) → AllByRecursion P ys
-last_ones P [] ys h = h
-last_ones P (x ∷ xs) ys h = last_ones P xs ys h.1
-
 of_terms : (P : TermList → Type 0) (qs : List Polynomial) → AllByRecursion P (all_terms qs) → AllByRecursion (λ (q : Polynomial). P q.terms) qs
 of_terms P [] h = tt
 of_terms P (q ∷ qs) h = (h.0, of_terms P qs h.1)
@@ -46,10 +38,10 @@ module _ (p : Pair) (d k : ℕ) where
     in_order = subst (Ordered Before) (sym h.monos) (monos_ordered (polynomials_at p d k o));
     parts = all_of_recursion (AreListed b.monos.items) b.parts.items
         (of_terms (within b.monos.items) b.parts.items
-        (subst (AllByRecursion (within b.monos.items)) (sym h.parts) (first_ones (within b.monos.items) (map (part_of p d o) (unknowns_of p d)) (rest_of p o ∷ all_terms (products_at p k o)) all_here)));
+        (subst (AllByRecursion (within b.monos.items)) (sym h.parts) (each_left (within b.monos.items) (map (part_of p d o) (unknowns_of p d)) (rest_of p o ∷ all_terms (products_at p k o)) all_here)));
     products = all_of_recursion (AreListed b.monos.items) b.products.items
         (subst (AllByRecursion (AreListed b.monos.items)) (sym h.products)
-        (of_terms (within b.monos.items) (products_at p k o) ((last_ones (within b.monos.items) (map (part_of p d o) (unknowns_of p d)) (rest_of p o ∷ all_terms (products_at p k o)) all_here).1)));
+        (of_terms (within b.monos.items) (products_at p k o) ((each_right (within b.monos.items) (map (part_of p d o) (unknowns_of p d)) (rest_of p o ∷ all_terms (products_at p k o)) all_here).1)));
   }
     where
       all_here : AllByRecursion (within b.monos.items) (polynomials_at p d k o)

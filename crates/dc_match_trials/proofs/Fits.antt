@@ -4,7 +4,7 @@ use Rattle.std.specs.List.{AllByRecursion}
 use Rattle.std.proofs.Common.{refl, sym, ◌∙◌, ap, subst, arith}
 use Rattle.std.proofs.lemmas.List.{length-replicate}
 use Rattle.dc_affine.specs.declared.atom.Atom.{Atom}
-use Rattle.dc_affine.specs.Atoms.{IsAtom, AllAtoms}
+use Rattle.dc_affine.specs.Atoms.{IsAtom}
 use Rattle.dc_system.specs.declared.edges.System.{System}
 use Rattle.dc_system.specs.Shapes.{IsWellFormed}
 use Rattle.dc_claims.specs.Plans.{IsPlan, IsCase, AreCases, IsFit}
@@ -22,7 +22,7 @@ idle_formed n params few first = record {
   small_literals = tt;
 }
 
-place_atoms : (n k : ℕ) → k ≤ 1024 * n → AllAtoms (IsAtom n) (replicate k first_place)
+place_atoms : (n k : ℕ) → k ≤ 1024 * n → AllByRecursion (IsAtom n) (replicate k first_place)
 place_atoms n zero l = tt
 place_atoms n (suc k) l = (record { few = omega arith; coefs_within = (omega arith, tt); constant_within = omega arith }, place_atoms n k (omega arith))
 

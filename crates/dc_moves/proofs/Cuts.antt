@@ -1,15 +1,17 @@
 -- Guards at the places of their edge.
 use Rattle.std.specs.Prelude.{◌≡◌, ℕ, zero, suc, ◌+◌, ◌<◌, ◌≤◌, Bool, true, false, cond, eqb, ltb, List, [], ◌∷◌, ◌++◌, map, length, take, slice_index_or, ℤ, pos, ◌+ℤ◌, ◌*ℤ◌, ◌≤ℤ◌}
+use Rattle.std.specs.List.{AllByRecursion}
 use Rattle.std.proofs.Common.{refl, sym, ◌∙◌, ap, ap₂, subst, inl, inr, arith}
 use Rattle.std.proofs.lemmas.Bool.{cases_lt, le-ltb}
 use Rattle.std.proofs.lemmas.List.{length-map, length-take, take_all, get_or-take}
+use Rattle.dc_math.specs.Members.{each-++, each_left, each_right}
 use Rattle.dc_math.specs.WholeVectors.{dot_ℤ}
 use Rattle.dc_math.specs.WholeRing.{ring, reads, read_nat, same_form}
 use Rattle.dc_math.specs.Rational.{ℚ, ◌*ℚ◌, ◌≤ℚ◌, of_ℤ}
 use Rattle.dc_math.specs.Sums.{sum_ℚ, sum_ℚ_same}
 use Rattle.dc_lp.specs.Linear.{Linear, combined}
 use Rattle.dc_affine.specs.declared.atom.Atom.{Atom}
-use Rattle.dc_affine.specs.Atoms.{AllFit, IsAtom, AllAtoms}
+use Rattle.dc_affine.specs.Atoms.{AllFit, IsAtom}
 use Rattle.dc_system.specs.declared.edges.Edge.{Edge}
 use Rattle.dc_system.specs.Shapes.{AtomSkips}
 use Rattle.dc_points.specs.Points.{Point, left_at, MeetsAt}
@@ -17,7 +19,6 @@ use Rattle.dc_points.specs.Stated.{rational, atom_number, coefficient_of}
 use Rattle.dc_points.specs.Shown.{sum_at, constant_sum, CombinesTo, ShowsLive}
 use Rattle.dc_points.proofs.Same.{same_problem}
 use Rattle.dc_families.specs.Moves.{edge_places}
-use Rattle.dc_families.proofs.Lists.{all_left, all_right, all_both}
 use Rattle.dc_moves.specs.Cuts.{cut_to, with_guard}
 use Rattle.dc_moves.specs.Laws.{CutsAskTheSame, CutsAskTheSameForms, CutsSayTheSame, CutsAreAtoms}
 
@@ -43,17 +44,17 @@ left-cut n e a p l h = ap (λ s. a.c0 *ℤ p.denominator +ℤ s) (dot-places n e
 -- ---- points
 module _ (k : ℕ) (p : Point) where
   abbrev AreLeft : List Atom → Type 0
-  AreLeft gs = AllAtoms (λ a. left_at (cut_to k a) p ≡ left_at a p) gs
+  AreLeft gs = AllByRecursion (λ a. left_at (cut_to k a) p ≡ left_at a p) gs
 
-  cut_met : (gs : List Atom) → AreLeft gs → AllAtoms (MeetsAt p) (map (cut_to k) gs) → AllAtoms (MeetsAt p) gs
+  cut_met : (gs : List Atom) → AreLeft gs → AllByRecursion (MeetsAt p) (map (cut_to k) gs) → AllByRecursion (MeetsAt p) gs
   cut_met [] h m = tt
   cut_met (g ∷ gs) h m = (subst (λ (x : ℤ). pos 0 ≤ℤ x) h.0 m.0, cut_met gs h.1 m.1)
 
-  met_cut : (gs : List Atom) → AreLeft gs → AllAtoms (MeetsAt p) gs → AllAtoms (MeetsAt p) (map (cut_to k) gs)
+  met_cut : (gs : List Atom) → AreLeft gs → AllByRecursion (MeetsAt p) gs → AllByRecursion (MeetsAt p) (map (cut_to k) gs)
   met_cut [] h m = tt
   met_cut (g ∷ gs) h m = (subst (λ (x : ℤ). pos 0 ≤ℤ x) (sym h.0) m.0, met_cut gs h.1 m.1)
 
-guard_left : (n : ℕ) (e : Edge) (p : Point) (gs : List Atom) → AllAtoms (IsAtom (n + 1)) gs → (e.any ≡ false → AllAtoms (AtomSkips n) gs) → AreLeft (edge_places n e) p gs
+guard_left : (n : ℕ) (e : Edge) (p : Point) (gs : List Atom) → AllByRecursion (IsAtom (n + 1)) gs → (e.any ≡ false → AllByRecursion (AtomSkips n) gs) → AreLeft (edge_places n e) p gs
 guard_left n e p [] h k = tt
 guard_left n e p (g ∷ gs) h k = (left-cut n e g p h.0.few (λ t. (k t).0), guard_left n e p gs h.1 (λ t. (k t).1))
 
@@ -62,8 +63,8 @@ cuts_say_the_same n e atoms p h =
     let left = guard_left n e p e.guard h.atoms (λ t. (h.unchosen t).guard) in
     let P : Atom → Type 0 = MeetsAt p in
     let cut : List Atom = map (cut_to (edge_places n e)) e.guard in (
-      (λ m. all_both P atoms e.guard (all_left P atoms cut m) (cut_met (edge_places n e) p e.guard left (all_right P atoms cut m))),
-      (λ m. all_both P atoms cut (all_left P atoms e.guard m) (met_cut (edge_places n e) p e.guard left (all_right P atoms e.guard m))),
+      (λ m. each-++ P atoms e.guard (each_left P atoms cut m) (cut_met (edge_places n e) p e.guard left (each_right P atoms cut m))),
+      (λ m. each-++ P atoms cut (each_left P atoms e.guard m) (met_cut (edge_places n e) p e.guard left (each_right P atoms e.guard m))),
     )
 
 -- ---- problems
@@ -133,16 +134,16 @@ fit-take zero cs h = tt
 fit-take (suc k) [] h = tt
 fit-take (suc k) (c ∷ cs) h = (h.0, fit-take k cs h.1)
 
-wider : (n : ℕ) (b : Bool) (atoms : List Atom) → AllAtoms (IsAtom n) atoms → AllAtoms (IsAtom (cond b (n + 1) n)) atoms
+wider : (n : ℕ) (b : Bool) (atoms : List Atom) → AllByRecursion (IsAtom n) atoms → AllByRecursion (IsAtom (cond b (n + 1) n)) atoms
 wider n b [] h = tt
 wider n true (a ∷ atoms) h = (record { few = let f = h.0.few in omega arith; coefs_within = h.0.coefs_within; constant_within = h.0.constant_within }, wider n true atoms h.1)
 wider n false (a ∷ atoms) h = (h.0, wider n false atoms h.1)
 
-cut_atoms : (k m : ℕ) (gs : List Atom) → AllAtoms (IsAtom m) gs → AllAtoms (IsAtom k) (map (cut_to k) gs)
+cut_atoms : (k m : ℕ) (gs : List Atom) → AllByRecursion (IsAtom m) gs → AllByRecursion (IsAtom k) (map (cut_to k) gs)
 cut_atoms k m [] h = tt
 cut_atoms k m (g ∷ gs) h =
     (record { few = omega (arith, length-take k g.coefs); coefs_within = fit-take k g.coefs h.0.coefs_within; constant_within = h.0.constant_within }, cut_atoms k m gs h.1)
 
 pub cuts_are_atoms : CutsAreAtoms
 cuts_are_atoms n e atoms h k =
-    all_both (IsAtom (edge_places n e)) atoms (map (cut_to (edge_places n e)) e.guard) (wider n e.any atoms k) (cut_atoms (edge_places n e) (n + 1) e.guard h.atoms)
+    each-++ (IsAtom (edge_places n e)) atoms (map (cut_to (edge_places n e)) e.guard) (wider n e.any atoms k) (cut_atoms (edge_places n e) (n + 1) e.guard h.atoms)

@@ -1,9 +1,10 @@
 -- What it is to leave out the chosen value of an edge that chooses none, and to ask for a form
 -- after an edge.
 use Rattle.std.specs.Prelude.{◌≡◌, ◌↔◌, ℕ, ◌≤◌, ◌<◌, ◌^◌, List, ◌++◌, length, sum_by, unsigned_abs, ℤ}
+use Rattle.std.specs.List.{AllByRecursion}
 use Rattle.dc_math.specs.Rational.{of_ℤ}
 use Rattle.dc_affine.specs.declared.atom.Atom.{Atom}
-use Rattle.dc_affine.specs.Atoms.{AllFit, IsAtom, AllAtoms}
+use Rattle.dc_affine.specs.Atoms.{AllFit, IsAtom}
 use Rattle.dc_system.specs.declared.edges.Edge.{Edge}
 use Rattle.dc_system.specs.Shapes.{IsEdge}
 use Rattle.dc_system.specs.After.{atom_after}
@@ -30,8 +31,8 @@ CutsSayTheSame = (n : ℕ) (e : Edge) (atoms : List Atom) (p : Point) → IsEdge
 
 -- in the sizes of atoms over those places
 abbrev pub CutsAreAtoms : Type 0
-CutsAreAtoms = (n : ℕ) (e : Edge) (atoms : List Atom) → IsEdge n e → AllAtoms (IsAtom n) atoms
-    → AllAtoms (IsAtom (edge_places n e)) (with_guard (edge_places n e) atoms e)
+CutsAreAtoms = (n : ℕ) (e : Edge) (atoms : List Atom) → IsEdge n e → AllByRecursion (IsAtom n) atoms
+    → AllByRecursion (IsAtom (edge_places n e)) (with_guard (edge_places n e) atoms e)
 
 -- ---- a form after an edge
 -- it has one coefficient for each place of the edge, of small sizes

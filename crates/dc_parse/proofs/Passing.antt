@@ -1,9 +1,10 @@
 -- Statements without a fault pass.
+use Rattle.std.specs.List.{AllByRecursion}
 use Rattle.std.proofs.Common.{◌≡◌, ℕ, Bool, true, false, ◌&&◌, List, [], ◌∷◌, ◌++◌, map, refl, sym, ap, ◌∙◌, Some, None}
 use Rattle.std.specs.declared.option.Option.{Option}
 use Rattle.dc_syntax.specs.declared.tree.Stmt.{Stmt, Stmt-F, roll-Stmt, map-Stmt, fold-roll-Stmt}
 use Rattle.dc_syntax.specs.declared.tree.Stmt.TheOpen.{Skip, Assign, AnyOf, Between, Tick, Assume, If, IfAny, While, WhileAny}
-use Rattle.dc_syntax.specs.Trees.{AllStmts, EachStmt}
+use Rattle.dc_syntax.specs.Trees.{EachStmt}
 use Rattle.dc_syntax.proofs.Inductions.{Stmt-induction}
 use Rattle.dc_affine.specs.declared.form.FormFault.{FormFault}
 use Rattle.dc_affine.specs.Whole.{statement_fault, statement_below, no_fault, each, inner, pass_step, statement_passes, all_pass}
@@ -19,7 +20,7 @@ module _ (n : ℕ) where
   abbrev Passes : Stmt → Type 0
   Passes S = (ps : List ℕ) → stmt_below n S ≡ true → first_form ps (faults_in n S) ≡ None → statement_passes n S ≡ true
 
-  list_passes : (A : List Stmt) → AllStmts Passes A → (ps : List ℕ) → all_below n A ≡ true → first_form ps (all_faults n A) ≡ None → each (map (statement_passes n) A) ≡ true
+  list_passes : (A : List Stmt) → AllByRecursion Passes A → (ps : List ℕ) → all_below n A ≡ true → first_form ps (all_faults n A) ≡ None → each (map (statement_passes n) A) ≡ true
   list_passes [] h ps b f = refl
   list_passes (S ∷ R) h ps b f =
       let p : _ = both (stmt_below n S) (all_below n R) b in
@@ -92,7 +93,7 @@ module _ (n : ℕ) where
   stmt_passes : (S : Stmt) → Passes S
   stmt_passes = Stmt-induction Passes layer_passes
 
-  all_stmts : (A : List Stmt) → AllStmts Passes A
+  all_stmts : (A : List Stmt) → AllByRecursion Passes A
   all_stmts [] = tt
   all_stmts (S ∷ R) = (stmt_passes S, all_stmts R)
 

@@ -3,7 +3,7 @@ use Rattle.std.specs.Prelude.{◌≡◌, ℕ, zero, suc, ◌-◌, ◌&&◌, true
 use Rattle.std.specs.List.{AllByRecursion}
 use Rattle.std.proofs.Common.{refl, sym, ap, ap₂, ◌∙◌, subst, arith, inl, inr}
 use Rattle.std.proofs.lemmas.List.{length-replicate}
-use Rattle.dc_math.specs.Members.{Among, head, tail}
+use Rattle.dc_math.specs.Members.{Among, head, tail, each_among}
 use Rattle.dc_syntax.specs.declared.tree.Proc.{Proc}
 use Rattle.dc_syntax.specs.declared.tree.Side.TheVariants.{New, Old}
 use Rattle.dc_syntax.specs.Value.{State}
@@ -25,7 +25,6 @@ use Rattle.dc_families.specs.Graphs.{graph_of}
 use Rattle.dc_families.specs.Families.{has_atom, family_of}
 use Rattle.dc_families.specs.Rounds.{IsOver, IsInductive}
 use Rattle.dc_families.proofs.Folds.{systems_are_graphs}
-use Rattle.dc_families.proofs.Lists.{each_atom}
 use Rattle.dc_families.proofs.Prunes.{printed_are_inductive}
 use Rattle.dc_families.proofs.Reached.{reached_meet}
 use Rattle.dc_families.proofs.Tests.{has_among, among_has}
@@ -81,7 +80,7 @@ all_true [] x h = refl
 all_true (a ∷ gs) x h = ap₂ ◌&&◌ (h a head) (all_true gs x (λ b i. h b (tail i)))
 
 lists_over : (n : ℕ) (lists : List (List Atom)) → AllByRecursion (AreAtoms n) lists → IsOver n (family_of lists)
-lists_over n lists h l a t = (each_atom (IsAtom n) a (slice_index_or lists l []) (atoms_in n l lists h) (has_among (slice_index_or lists l []) a t)).few
+lists_over n lists h l a t = (each_among (IsAtom n) (atoms_in n l lists h) (has_among (slice_index_or lists l []) a t)).few
 
 module _ (s : System) (lists cases : List (List Atom)) (plan : IsPlan s lists) (inductive : IsInductive (graph_of s) cases (family_of lists)) where
   list_holds : (v : State) (c : ℤ) (l : ℕ) (x : State) → length v ≡ s.params → Allowed cases v → Path s.edges 0 (start_in s v) c l x → all_hold (slice_index_or lists l []) x ≡ true

@@ -1,11 +1,11 @@
 -- Rational points: which atoms hold there, and what a list of atoms entails.
 use Rattle.std.specs.Prelude.{◌≡◌, ℕ, ◌<◌, ◌≤◌, List, length, ℤ, pos, ◌+ℤ◌, ◌*ℤ◌, ◌≤ℤ◌, slice_index_or}
+use Rattle.std.specs.List.{AllByRecursion}
 use Rattle.std.proofs.Common.{arith}
 use Rattle.std.proofs.lemmas.Int.{ints}
 use Rattle.dc_math.specs.WholeVectors.{dot_ℤ}
 use Rattle.dc_math.specs.Rational.{ℚ, ◌+ℚ◌, ◌*ℚ◌, of_ℤ, ◌<ℚ◌, NonNegative}
 use Rattle.dc_affine.specs.declared.atom.Atom.{Atom}
-use Rattle.dc_affine.specs.Atoms.{AllAtoms}
 
 -- whole numbers over one denominator; a coordinate that is missing is 0
 pub record Point : Type 0 where
@@ -22,7 +22,7 @@ MeetsAt p a = pos 0 ≤ℤ left_at a p
 
 -- the point meets each of them
 abbrev pub MeetsAll : Point → List Atom → Type 0
-MeetsAll p hyps = AllAtoms (MeetsAt p) hyps
+MeetsAll p hyps = AllByRecursion (MeetsAt p) hyps
 
 -- the atom holds wherever the list does
 abbrev pub Entails : List Atom → Atom → Type 0
@@ -39,7 +39,7 @@ EntailsFrom hyps form v =
 
 -- each atom has at most n coefficients
 abbrev pub AreOver : ℕ → List Atom → Type 0
-AreOver n hyps = AllAtoms (λ a. length a.coefs ≤ n) hyps
+AreOver n hyps = AllByRecursion (λ a. length a.coefs ≤ n) hyps
 
 -- the point whose coordinate k, for k below n, is y k divided by y n, which is negative
 pub record IsNamed (n : ℕ) (y : ℕ → ℚ) (p : Point) : Type 0 where

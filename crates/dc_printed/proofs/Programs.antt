@@ -1,4 +1,5 @@
 -- What the parser gives fits, so that it has a text.
+use Rattle.std.specs.List.{AllByRecursion}
 use Rattle.std.proofs.Common.{◌≡◌, ℕ, zero, suc, ◌<◌, Bool, true, false, ◌&&◌, ltb, leb, nat_lt, nat_le, List, [], ◌∷◌, map, length, get_or, refl, sym, ap, ◌∙◌, arith}
 use Rattle.std.proofs.lemmas.Bool.Decides.{nat_tests}
 use Rattle.dc_tokens.proofs.Front.{and_left, and_right}
@@ -8,7 +9,7 @@ use Rattle.dc_syntax.specs.declared.tree.Cond.{Cond, Cond-F, roll-Cond}
 use Rattle.dc_syntax.specs.declared.tree.Cond.TheOpen as G
 use Rattle.dc_syntax.specs.declared.tree.Stmt.{Stmt, Stmt-F, roll-Stmt}
 use Rattle.dc_syntax.specs.declared.tree.Stmt.TheOpen as H
-use Rattle.dc_syntax.specs.Trees.{EachExpr, EachCond, AllStmts, EachStmt}
+use Rattle.dc_syntax.specs.Trees.{EachExpr, EachCond, EachStmt}
 use Rattle.dc_syntax.proofs.Inductions.{Expr-induction, Cond-induction, Stmt-induction}
 use Rattle.dc_affine.specs.Forms.{below_step, is_below}
 use Rattle.dc_affine.specs.Atoms.{cond_below_step, cond_is_below}
@@ -93,7 +94,7 @@ module _ (n : ℕ) where
   limited_inside : (L : Stmt-F Bool) → limits_step L ≡ true → whole.inner L ≡ true
   limited_inside L h = and_right (statement_limited L) (whole.inner L) h
 
-  all_fit : (A : List Stmt) → AllStmts StmtFits A → whole.each (map (statement_passes n) A) ≡ true → whole.each (map stmt_is_limited A) ≡ true → stmts_fit n A ≡ true
+  all_fit : (A : List Stmt) → AllByRecursion StmtFits A → whole.each (map (statement_passes n) A) ≡ true → whole.each (map stmt_is_limited A) ≡ true → stmts_fit n A ≡ true
   all_fit [] h f l = refl
   all_fit (S ∷ A) h f l = both _ _ (h.0 (and_left _ _ f) (and_left _ _ l)) (all_fit A h.1 (and_right _ _ f) (and_right _ _ l))
 
@@ -128,7 +129,7 @@ module _ (n : ℕ) where
   stmt_layer (H.WhileAny A) h f l =
       fits-WhileAny n A ∙ all_fit A h (passes_inside (H.WhileAny (map (statement_passes n) A)) (sym (at_while_any Bool (pass_step n) A) ∙ f)) (limited_inside (H.WhileAny (map stmt_is_limited A)) (sym (at_while_any Bool limits_step A) ∙ l))
 
-  every : (A : List Stmt) → AllStmts StmtFits A
+  every : (A : List Stmt) → AllByRecursion StmtFits A
   every [] = tt
   every (S ∷ A) = (Stmt-induction StmtFits stmt_layer S, every A)
 

@@ -1,4 +1,5 @@
 -- The brackets that statements need, by a measure; their text has no others.
+use Rattle.std.specs.List.{AllByRecursion}
 use Rattle.std.proofs.Common.{◌≡◌, ℕ, suc, ◌<◌, true, ◌&&◌, nat_lt, List, [], ◌∷◌, ◌++◌, map, length, refl, sym, ap, subst, ◌∙◌, append_assoc}
 use Rattle.std.specs.Prelude.{slice_index_or}
 use Rattle.dc_syntax.specs.declared.tree.Expr.{Expr}
@@ -6,7 +7,7 @@ use Rattle.dc_syntax.specs.declared.tree.Cond.{Cond}
 use Rattle.dc_syntax.specs.declared.tree.Stmt.{Stmt, Stmt-F, roll-Stmt, fold-Stmt, fold-roll-Stmt}
 use Rattle.dc_syntax.specs.declared.tree.Stmt.TheVariants as s
 use Rattle.dc_syntax.specs.declared.tree.Stmt.TheOpen as G
-use Rattle.dc_syntax.specs.Trees.{AllStmts, EachStmt}
+use Rattle.dc_syntax.specs.Trees.{EachStmt}
 use Rattle.dc_syntax.proofs.Inductions.{Stmt-induction}
 use Rattle.dc_syntax.specs.Text.{expr_text, cond_text, stmt_text, stmts_text}
 use Rattle.dc_tokens.proofs.Front.{and_left, and_right}
@@ -125,7 +126,7 @@ module _ (M : Measure) where
     abbrev MatchesAll : List Stmt → Type 0
     MatchesAll A = stmts_fit (length names) A ≡ true → TextSized M (stmts_text names A) (need_all A)
 
-    all_sized : (A : List Stmt) → AllStmts Matches A → MatchesAll A
+    all_sized : (A : List Stmt) → AllByRecursion Matches A → MatchesAll A
     all_sized [] h f = M.empty
     all_sized (S ∷ A) h f = text_join M (stmt_text names S) (stmts_text names A) (need_of S) (need_all A) (h.0 (and_left _ _ f)) (all_sized A h.1 (and_right _ _ f))
 
@@ -174,7 +175,7 @@ module _ (M : Measure) where
     one_sized : (S : Stmt) → Matches S
     one_sized S = Stmt-induction Matches stmt_layer S
 
-    each_sized : (A : List Stmt) → AllStmts Matches A
+    each_sized : (A : List Stmt) → AllByRecursion Matches A
     each_sized [] = tt
     each_sized (S ∷ A) = (one_sized S, each_sized A)
 

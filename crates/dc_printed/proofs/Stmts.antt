@@ -1,4 +1,5 @@
 -- The text of statements reads as the statements.
+use Rattle.std.specs.List.{AllByRecursion}
 use Rattle.std.proofs.Common.{◌≡◌, ℕ, ◌+◌, ◌<◌, true, ◌&&◌, nat_lt, List, [], ◌∷◌, ◌++◌, length, drop, get_or, Option, Some, None, refl, sym, ap, subst, ◌∙◌, arith, append_assoc, length-append}
 use Rattle.std.specs.Prelude.{slice_index_or}
 use Rattle.dc_tokens.specs.declared.token.TokenKind.{TokenKind}
@@ -12,7 +13,7 @@ use Rattle.dc_syntax.specs.declared.tree.Cond.{Cond}
 use Rattle.dc_syntax.specs.declared.tree.Stmt.{Stmt, Stmt-F, roll-Stmt}
 use Rattle.dc_syntax.specs.declared.tree.Stmt.TheVariants as s
 use Rattle.dc_syntax.specs.declared.tree.Stmt.TheOpen as G
-use Rattle.dc_syntax.specs.Trees.{AllStmts, EachStmt}
+use Rattle.dc_syntax.specs.Trees.{EachStmt}
 use Rattle.dc_syntax.proofs.Inductions.{Stmt-induction}
 use Rattle.dc_syntax.specs.declared.layer.Layer.TheVariants.{Loose}
 use Rattle.dc_syntax.specs.Text.{expr_text, cond_text, stmt_text, stmts_text}
@@ -230,7 +231,7 @@ module _ (p : Token → ℕ) (whole : List ℕ) (names : List (List ℕ)) (finds
   abbrev ReadAll : List Stmt → Type 0
   ReadAll A = stmts_fit (length names) A ≡ true → (at : ℕ) (rest : List ℕ) → drop at whole ≡ stmts_text names A ++ rest → SaysStmts p at (stmts_text names A) rest A
 
-  read_all : (A : List Stmt) → AllStmts Read A → ReadAll A
+  read_all : (A : List Stmt) → AllByRecursion Read A → ReadAll A
   read_all [] h f at rest q = record { tokens = _; tree = _; says = record { reads = nothing_read at rest; derives = no_more }; is = refl }
   read_all (S ∷ A) h f at rest q =
       let e = q ∙ append_assoc (stmt_text names S) (stmts_text names A) rest in
@@ -384,7 +385,7 @@ module _ (p : Token → ℕ) (whole : List ℕ) (names : List (List ℕ)) (finds
   read_one : (S : Stmt) → Read S
   read_one S = Stmt-induction Read read_layer S
 
-  all_read : (A : List Stmt) → AllStmts Read A
+  all_read : (A : List Stmt) → AllByRecursion Read A
   all_read [] = tt
   all_read (S ∷ A) = (read_one S, all_read A)
 

@@ -4,11 +4,11 @@ use Rattle.std.specs.List.{range_with_len, list_all, AllByRecursion}
 use Rattle.std.specs.Ordering.{int_eq}
 use Rattle.std.proofs.lemmas.Bool.{eq-eqb, leb-true, ltb-false, and_right}
 use Rattle.std.proofs.lemmas.List.FromFn.{length-map-range_with_len}
-use Rattle.dc_math.specs.Members.{Among, head, tail, each_among, none_among, among_each, among_image, among_filter_back, among_range}
+use Rattle.dc_math.specs.Members.{Among, head, tail, each_among, among_each, none_among, among_image, among_filter_back, among_range}
 use Rattle.dc_math.specs.OrderedLists.{pairs_ordered}
 use Rattle.dc_poly.specs.NormalForm.{most}
 use Rattle.dc_affine.specs.declared.atom.Atom.{Atom}
-use Rattle.dc_affine.specs.Atoms.{AllFit, IsAtom, AllAtoms}
+use Rattle.dc_affine.specs.Atoms.{AllFit, IsAtom}
 use Rattle.dc_system.specs.declared.edges.System.{System}
 use Rattle.dc_system.specs.Shapes.{IsEdge, IsWellFormed}
 use Rattle.dc_rows.specs.declared.kinds.RowFault.{RowFault}
@@ -80,19 +80,14 @@ part-row n m a h z = record {
   within = fit-map (λ k. get_or a.coefs k (pos 0)) (λ k. fit_at a.coefs k h.coefs_within) (range_with_len 0 n);
 }
 
-atom-in : (P : Atom → Type 0) (a : Atom) (atoms : List Atom) → AllAtoms P atoms → Among a atoms → P a
-atom-in P a [] h i = none_among i
-atom-in P a (b ∷ atoms) h head = h.0
-atom-in P a (b ∷ atoms) h (tail i) = atom-in P a atoms h.1 i
-
-source-row : (s : System) (when : List Atom) (pairs : Bool) (r : Row) → IsWellFormed s → AllAtoms (IsAtom s.params) when → IsSource s when pairs r → IsRow s.vars r
+source-row : (s : System) (when : List Atom) (pairs : Bool) (r : Row) → IsWellFormed s → AllByRecursion (IsAtom s.params) when → IsSource s when pairs r → IsRow s.vars r
 source-row s when pairs r y h (single k c l u e) = subst (IsRow s.vars) (sym e) (alone-row s.vars k c l u)
 source-row s when pairs r y h (pair j k c d p l m u v e) = subst (IsRow s.vars) (sym e) (together-row s.vars j k c d (omega arith) u v)
 source-row s when pairs r y h (condition a i e z) =
-    subst (IsRow s.vars) (sym e) (part-row s.vars s.params a (atom-in (IsAtom s.params) a when h i) (ap is_nonzero (sym e) ∙ z))
+    subst (IsRow s.vars) (sym e) (part-row s.vars s.params a (each_among (IsAtom s.params) h i) (ap is_nonzero (sym e) ∙ z))
 source-row s when pairs r y h (guard g a i j u e z) =
     let k : IsEdge s.vars g = each_among (IsEdge s.vars) y.edges i in
-    subst (IsRow s.vars) (sym e) (part-row s.vars (s.vars + 1) a (atom-in (IsAtom (s.vars + 1)) a g.guard k.atoms j) (ap is_nonzero (sym e) ∙ z))
+    subst (IsRow s.vars) (sym e) (part-row s.vars (s.vars + 1) a (each_among (IsAtom (s.vars + 1)) k.atoms j) (ap is_nonzero (sym e) ∙ z))
 
 -- ---- limits
 few : (a b : Bool) (f g : RowFault) → (if a then Some f else (if b then Some g else None)) ≡ None → (a ≡ false) × (b ≡ false)
@@ -105,7 +100,7 @@ within-each bs =
     among_each (λ b. unsigned_abs b ≤ largest_bound) (rising (filter is_within bs))
     (λ b i. leb-true (unsigned_abs b) largest_bound (among_filter_back is_within b bs (in_rising b (filter is_within bs) i)).1)
 
-pub are_wanted : (s : System) (when : List Atom) (pairs : Bool) (rs : List Row) (bs : List ℤ) → IsWellFormed s → AllAtoms (IsAtom s.params) when
+pub are_wanted : (s : System) (when : List Atom) (pairs : Bool) (rs : List Row) (bs : List ℤ) → IsWellFormed s → AllByRecursion (IsAtom s.params) when
     → rs ≡ candidate_rows s when pairs → bs ≡ candidate_bounds s when → length rs ≤ 1024 → length bs ≤ 256 → AreCandidates s.vars (record { rows = rs; bounds = bs })
 are_wanted s when pairs rs bs y h e f k l =
     let all : AreCandidates s.vars (candidates_of s when pairs) = record {

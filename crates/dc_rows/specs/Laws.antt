@@ -1,8 +1,9 @@
 -- What the two lists have, in the subject's own words.
 use Rattle.std.specs.Prelude.{◌≡◌, ◌↔◌, ℕ, ◌<◌, ◌≤◌, ◌⊎◌, List, ℤ, pos, negsuc, ◌-ℤ◌, neg_ℤ, unsigned_abs, Bool, true, None}
+use Rattle.std.specs.List.{AllByRecursion}
 use Rattle.dc_math.specs.Members.{Among}
 use Rattle.dc_affine.specs.declared.atom.Atom.{Atom}
-use Rattle.dc_affine.specs.Atoms.{IsAtom, AllAtoms}
+use Rattle.dc_affine.specs.Atoms.{IsAtom}
 use Rattle.dc_system.specs.declared.edges.Edge.{Edge}
 use Rattle.dc_system.specs.declared.edges.System.{System}
 use Rattle.dc_system.specs.Shapes.{IsWellFormed}
@@ -49,5 +50,5 @@ BoundsAreNear =
 abbrev pub AreKind : Type 0
 AreKind =
     (s : System) (when : List Atom) (pairs : Bool) → IsWellFormed s
-    → AllAtoms (IsAtom s.params) when → size_fault (candidates_of s when pairs) ≡ None
+    → AllByRecursion (IsAtom s.params) when → size_fault (candidates_of s when pairs) ≡ None
     → AreCandidates s.vars (candidates_of s when pairs)

@@ -1,7 +1,7 @@
 //! The bounds of a system and of the atoms of its condition.
 ghost use Rattle.std.specs.Prelude.{◌≡◌, ◌≤◌, ◌++◌, IfOk, OnOk, filter, flat_map, ℕ};
 ghost use Rattle.std.specs.List.{AllByRecursion};
-ghost use Rattle.dc_affine.specs.Atoms.{IsAtom, AllAtoms};
+ghost use Rattle.dc_affine.specs.Atoms.{IsAtom};
 ghost use Rattle.dc_rows.specs.Bounds.{around, mentioned, is_within, candidate_bounds};
 
 use dc_affine::Atom;
@@ -43,7 +43,7 @@ fn add_near(bounds: &mut Vec<i64>, size: u64) -> Result<(), AllocError>
 // The bounds next to the literals and the constants, with repeats.
 fn list_bounds(alloc: Global, s: &System, when: &[Atom]) -> Result<Vec<i64>, AllocError>
     requires literals { AllByRecursion (λ (k : ℕ). k ≤ 2147483647) s.now.literals }
-    requires atoms { AllAtoms (IsAtom s.now.params) when.now }
+    requires atoms { AllByRecursion (IsAtom s.now.params) when.now }
     ensures { IfOk result
         (λ bounds. bounds.items ≡ filter is_within (flat_map around (mentioned s.now when.now))) }
 {
@@ -61,7 +61,7 @@ fn list_bounds(alloc: Global, s: &System, when: &[Atom]) -> Result<Vec<i64>, All
 /// All bounds, rising.
 pub(crate) fn gather(alloc: Global, s: &System, when: &[Atom]) -> Result<Vec<i64>, AllocError>
     requires literals { AllByRecursion (λ (k : ℕ). k ≤ 2147483647) s.now.literals }
-    requires atoms { AllAtoms (IsAtom s.now.params) when.now }
+    requires atoms { AllByRecursion (IsAtom s.now.params) when.now }
     ensures { IfOk result (λ bounds. bounds.items ≡ candidate_bounds s.now when.now) }
 {
     let mut bounds = list_bounds(alloc, s, when)?;

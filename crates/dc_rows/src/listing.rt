@@ -1,6 +1,7 @@
 //! The candidates of a program's system.
 ghost use Rattle.std.specs.Prelude.{◌≡◌, IfOk, IfErr, None};
-ghost use Rattle.dc_affine.specs.Atoms.{IsAtom, AllAtoms};
+ghost use Rattle.std.specs.List.{AllByRecursion};
+ghost use Rattle.dc_affine.specs.Atoms.{IsAtom};
 ghost use Rattle.dc_system.specs.Shapes.{IsWellFormed};
 ghost use Rattle.dc_rows.specs.Candidate.{candidates_of, size_fault, IsRowFault, AreCandidates};
 
@@ -34,7 +35,7 @@ pub fn candidates(
     pairs: bool,
 ) -> Result<Candidates, RowFault>
     requires system { IsWellFormed s.now }
-    requires atoms { AllAtoms (IsAtom s.now.params) when.now }
+    requires atoms { AllByRecursion (IsAtom s.now.params) when.now }
     ensures list { IfOk result (λ c. c ≡ candidates_of s.now when.now pairs) }
     ensures within { IfOk result (λ c. size_fault (candidates_of s.now when.now pairs) ≡ None) }
     ensures kind { IfOk result (λ c. AreCandidates s.now.vars c) }

@@ -1,5 +1,6 @@
 //! The candidates of a source and a condition in one case.
-ghost use Rattle.dc_affine.specs.Atoms.{AllAtoms, AllCases, IsAtom, IsFullAtom};
+ghost use Rattle.std.specs.List.{AllByRecursion};
+ghost use Rattle.dc_affine.specs.Atoms.{AllCases, IsAtom, IsFullAtom};
 
 use dc_affine::Atom;
 use dc_parse::{parse_proc, parse_when};
@@ -12,7 +13,7 @@ use std::test::Fail;
 // The atoms of the first case.
 fn first(cases: &[Items<Atom>], places: usize) -> &[Atom]
     requires { AllCases (IsFullAtom places) cases.now }
-    ensures { AllAtoms (IsAtom places) result.now }
+    ensures { AllByRecursion (IsAtom places) result.now }
 {
     match cases {
         [] => &[],

@@ -1,4 +1,5 @@
 -- Induction over the trees, for any property.
+use Rattle.std.specs.List.{AllByRecursion}
 use Rattle.std.proofs.Common.{subst, List, [], ◌∷◌, map}
 use Rattle.dc_syntax.specs.declared.tree.Expr.{Expr, Expr-F, roll-Expr, ind-Expr, map-Expr}
 use Rattle.dc_syntax.specs.declared.tree.Expr.TheOpen as F
@@ -6,7 +7,7 @@ use Rattle.dc_syntax.specs.declared.tree.Cond.{Cond, Cond-F, roll-Cond, ind-Cond
 use Rattle.dc_syntax.specs.declared.tree.Cond.TheOpen as G
 use Rattle.dc_syntax.specs.declared.tree.Stmt.{Stmt, Stmt-F, roll-Stmt, ind-Stmt, map-Stmt}
 use Rattle.dc_syntax.specs.declared.tree.Stmt.TheOpen.{Skip, Assign, AnyOf, Between, Tick, Assume, If, IfAny, While, WhileAny}
-use Rattle.dc_syntax.specs.Trees.{EachExpr, EachCond, AllStmts, EachStmt}
+use Rattle.dc_syntax.specs.Trees.{EachExpr, EachCond, EachStmt}
 
 module _ (P : Expr → Type 0) (W : Type 0) (val : W → Expr) (fact : (w : W) → P (val w)) where
   each-Expr : (y : Expr-F W) → EachExpr P (map-Expr W Expr val y)
@@ -35,7 +36,7 @@ Cond-induction P step c =
     ind-Cond P (λ x y q. subst (λ l. P (roll-Cond l)) q (step (map-Cond _ Cond (λ w. w.0) y) (each-Cond P _ (λ w. w.0) (λ w. w.1) y))) c
 
 module _ (P : Stmt → Type 0) (W : Type 0) (val : W → Stmt) (fact : (w : W) → P (val w)) where
-  alls : (ws : List W) → AllStmts P (map val ws)
+  alls : (ws : List W) → AllByRecursion P (map val ws)
   alls [] = tt
   alls (w ∷ ws) = (fact w, alls ws)
 

@@ -1,5 +1,6 @@
 -- A property of each tree that stands directly inside another.
 use Rattle.std.specs.Prelude.{List, [], ◌∷◌}
+use Rattle.std.specs.List.{AllByRecursion}
 use Rattle.dc_syntax.specs.declared.tree.Expr.{Expr, Expr-F}
 use Rattle.dc_syntax.specs.declared.tree.Expr.TheOpen as F
 use Rattle.dc_syntax.specs.declared.tree.Cond.{Cond, Cond-F}
@@ -25,17 +26,12 @@ EachCond P (G.Not c) = P c
 EachCond P (G.And c d) = P c × P d
 EachCond P (G.Or c d) = P c × P d
 
--- P of each statement of a list
-abbrev pub AllStmts : (Stmt → Type 0) → List Stmt → Type 0
-AllStmts P [] = Unit {0}
-AllStmts P (S ∷ R) = P S × AllStmts P R
-
 -- P of each statement of the lists inside
 abbrev pub EachStmt : (Stmt → Type 0) → Stmt-F Stmt → Type 0
-EachStmt P (If b A B) = AllStmts P A × AllStmts P B
-EachStmt P (IfAny A B) = AllStmts P A × AllStmts P B
-EachStmt P (While b A) = AllStmts P A
-EachStmt P (WhileAny A) = AllStmts P A
+EachStmt P (If b A B) = AllByRecursion P A × AllByRecursion P B
+EachStmt P (IfAny A B) = AllByRecursion P A × AllByRecursion P B
+EachStmt P (While b A) = AllByRecursion P A
+EachStmt P (WhileAny A) = AllByRecursion P A
 EachStmt P Skip = Unit {0}
 EachStmt P (Assign k e) = Unit {0}
 EachStmt P (AnyOf k) = Unit {0}

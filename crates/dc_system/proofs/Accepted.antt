@@ -9,7 +9,7 @@ use Rattle.dc_syntax.specs.declared.tree.Cond.TheOpen as G
 use Rattle.dc_syntax.specs.declared.tree.Stmt.{Stmt, Stmt-F, roll-Stmt, fold-roll-Stmt}
 use Rattle.dc_syntax.specs.declared.tree.Stmt.TheOpen as H
 use Rattle.dc_syntax.specs.declared.tree.Proc.{Proc}
-use Rattle.dc_syntax.specs.Trees.{EachExpr, EachCond, AllStmts, EachStmt}
+use Rattle.dc_syntax.specs.Trees.{EachExpr, EachCond, EachStmt}
 use Rattle.dc_syntax.proofs.Inductions.{Expr-induction, Cond-induction, Stmt-induction}
 use Rattle.dc_affine.specs.Whole as whole
 use Rattle.dc_affine.specs.Whole.{FormsPass}
@@ -128,7 +128,7 @@ inside L h = and_right (statement_limited L) (whole.inner L) h
 own : (L : Stmt-F Bool) → limits_step L ≡ true → statement_limited L ≡ true
 own L h = and_left (statement_limited L) (whole.inner L) h
 
-all_of : (A : List Stmt) → AllStmts StmtOf A → whole.each (map stmt_is_limited A) ≡ true → Small (joined (map stmt_numbers A)) × Few (joined (map stmt_operators A))
+all_of : (A : List Stmt) → AllByRecursion StmtOf A → whole.each (map stmt_is_limited A) ≡ true → Small (joined (map stmt_numbers A)) × Few (joined (map stmt_operators A))
 all_of [] h l = (tt, tt)
 all_of (S ∷ A) h l =
     let f = h.0 (and_left _ _ l) in

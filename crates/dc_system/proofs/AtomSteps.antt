@@ -1,17 +1,18 @@
 -- The steps of the loops that put values into atoms.
 use Rattle.std.specs.Prelude.{◌≡◌, ℕ, zero, suc, ◌+◌, ◌*◌, ◌≤◌, ◌<◌, Bool, true, false, ◌&&◌, leb, if◌then◌else◌, List, [], ◌∷◌, ◌++◌, map, take, drop, length, get_or, ℤ, ◌+ℤ◌, unsigned_abs, Some, None, refl}
+use Rattle.std.specs.List.{AllByRecursion}
 use Rattle.std.specs.declared.option.Option.{Option}
 use Rattle.std.proofs.Common.{sym, ◌∙◌, ap, ap₂, subst, arith, SFits}
 use Rattle.std.specs.Int.{w128}
 use Rattle.std.proofs.lemmas.Int.{ints, fits_signed_from_abs}
 use Rattle.std.proofs.lemmas.Bool.{le-leb, lt-leb}
 use Rattle.std.proofs.lemmas.List.{append_assoc, append-nil, drop_more, drop_all}
+use Rattle.dc_math.specs.Members.{each_is}
 use Rattle.dc_poly.specs.Terms.{Exponents, Polynomial}
 use Rattle.dc_poly.specs.Sums.{zeros, unit_at}
 use Rattle.dc_poly.specs.Affine.{units}
 use Rattle.dc_affine.specs.declared.atom.Atom.{Atom}
 use Rattle.dc_poly.specs.NormalForm.{most}
-use Rattle.dc_affine.specs.Atoms.{AllAtoms}
 use Rattle.dc_affine.proofs.Units.{units_done}
 use Rattle.dc_system.specs.Composed.{coef_at, atom_at, atoms_at, numbers_fit, atom_fits, atoms_fit}
 
@@ -79,11 +80,6 @@ atom_written m k a vs s c d u cs ds e f h i j l g o p =
 pub ruleset reading = (constant_bars, coef_bars)
 
 -- ---- the loop over a guard
-pub each_atom : (P : Atom → Type 0) (gs : List Atom) (k : ℕ) (a : Atom) → AllAtoms P gs → k < length gs → a ≡ get_or gs k a → P a
-each_atom P [] k a h l e = absurd (omega arith)
-each_atom P (b ∷ gs) zero a h l e = subst P (sym e) h.0
-each_atom P (b ∷ gs) (suc k) a h l e = each_atom P gs k a h.1 (omega arith) e
-
 -- what is left to be read decides, and what was read stands there
 pub record Guarding (m : ℕ) (first gs : List Atom) (vs : List Polynomial) (k : ℕ) (o : List Atom) : Type 0 where
   pub fits : atoms_fit (atoms_at m gs vs) ≡ atoms_fit (atoms_at m (drop k gs) vs)
@@ -119,7 +115,7 @@ guard_done m first gs vs k o h w =
 pub guard_begins : (m : ℕ) (first gs : List Atom) (vs : List Polynomial) (o : List Atom) → o ≡ first → Guarding m first gs vs 0 o
 guard_begins m first gs vs o e = record { fits = refl; so_far = ap (λ y. y ++ atoms_at m gs vs) e }
 
-pub ruleset guarding = (guard_more, guard_bars, guard_done, guard_begins, each_atom)
+pub ruleset guarding = (guard_more, guard_bars, guard_done, guard_begins, each_is)
 
 -- ---- 128 bits are enough
 pub sum_fits : (s : ℤ) → unsigned_abs s ≤ 11 * (most * most) → SFits w128 s

@@ -4,6 +4,7 @@ use Rattle.std.specs.List.{AllByRecursion}
 use Rattle.std.proofs.Common.{sym, ◌∙◌, ap, subst, arith, length-append}
 use Rattle.std.proofs.lemmas.Bool.{leb-true}
 use Rattle.std.proofs.lemmas.List.{length-map}
+use Rattle.dc_math.specs.Members.{each-++}
 use Rattle.dc_poly.specs.Terms.{degree_of, Polynomial, Places}
 use Rattle.dc_poly.specs.Sums.{unit_at, zeros, plus, composition_of, places_of, sum_of}
 use Rattle.dc_poly.specs.Sums as sums
@@ -12,7 +13,7 @@ use Rattle.dc_poly.proofs.Values.{Canonical-composed, Canonical-plus}
 use Rattle.dc_poly.proofs.Padded.{AllPadded, Places-composed, Places-plus, Places-variable}
 use Rattle.dc_affine.specs.declared.atom.Atom.{Atom}
 use Rattle.dc_poly.specs.NormalForm.{most, coefs_fit, IsNormalForm}
-use Rattle.dc_affine.specs.Atoms.{AllFit, IsAtom, AllAtoms}
+use Rattle.dc_affine.specs.Atoms.{AllFit, IsAtom}
 use Rattle.dc_affine.proofs.FormLaws.{and_both}
 use Rattle.dc_affine.proofs.Units.{length-units}
 use Rattle.dc_system.specs.declared.edges.Edge.{Edge}
@@ -82,10 +83,6 @@ cost_at n e f h j g =
     }
 
 -- ---- atoms
-AllAtoms-++ : (P : Atom → Type 0) (a b : List Atom) → AllAtoms P a → AllAtoms P b → AllAtoms P (a ++ b)
-AllAtoms-++ P [] b h k = k
-AllAtoms-++ P (x ∷ a) b h k = (h.0, AllAtoms-++ P a b h.1 k)
-
 numbers_all : (cs : List ℤ) → numbers_fit cs ≡ true → AllFit cs
 numbers_all [] h = tt
 numbers_all (c ∷ cs) h = let q = and_both (leb (unsigned_abs c) most) (numbers_fit cs) h in (leb-true (unsigned_abs c) most q.0, numbers_all cs q.1)
@@ -97,7 +94,7 @@ sized m a vs h =
     let l : length b.coefs ≡ m = length-map (units m) (coef_at a.coefs vs) ∙ length-units m in
     record { few = omega arith; coefs_within = numbers_all b.coefs q.1; constant_within = leb-true (unsigned_abs b.c0) 2147483648 q.0 }
 
-all_sized : (m : ℕ) (gs : List Atom) (vs : List Polynomial) → atoms_fit (atoms_at m gs vs) ≡ true → AllAtoms (IsAtom m) (atoms_at m gs vs)
+all_sized : (m : ℕ) (gs : List Atom) (vs : List Polynomial) → atoms_fit (atoms_at m gs vs) ≡ true → AllByRecursion (IsAtom m) (atoms_at m gs vs)
 all_sized m [] vs h = tt
 all_sized m (a ∷ gs) vs h = let q = and_both (atom_fits (atom_at m a vs)) (atoms_fit (atoms_at m gs vs)) h in (sized m a vs q.0, all_sized m gs vs q.1)
 
@@ -114,7 +111,7 @@ atom_skips n e a h u s =
     units_at (coef_at a.coefs (after n e)) (n + 1) n (omega arith)
     ∙ no_coef_at n e.update (chosen n) a.coefs (unit_at (n + 1) n) (last_unit n) u.update (ap (λ k. int_at a.coefs k) h.one_each ∙ s)
 
-atoms_skip : (n : ℕ) (e : Edge) (gs : List Atom) → IsEdge n e → IsUnchosen n e → AllAtoms (AtomSkips n) gs → AllAtoms (AtomSkips n) (atoms_at (n + 1) gs (after n e))
+atoms_skip : (n : ℕ) (e : Edge) (gs : List Atom) → IsEdge n e → IsUnchosen n e → AllByRecursion (AtomSkips n) gs → AllByRecursion (AtomSkips n) (atoms_at (n + 1) gs (after n e))
 atoms_skip n e [] h u s = tt
 atoms_skip n e (a ∷ gs) h u s = (atom_skips n e a h u s.0, atoms_skip n e gs h u s.1)
 
@@ -132,9 +129,9 @@ composed_edge n e f h j k c = record {
   updates = all_forms_at n e f.update h j c.updates;
   cost = cost_at n e f h j c.cost;
   few_atoms = (let a = length-append e.guard (atoms_at (n + 1) f.guard (after n e)) in let b = length-map f.guard (λ a. atom_at (n + 1) a (after n e)) in let d = c.few in omega arith);
-  atoms = AllAtoms-++ (IsAtom (n + 1)) e.guard (atoms_at (n + 1) f.guard (after n e)) j.atoms (all_sized (n + 1) f.guard (after n e) c.atoms);
+  atoms = each-++ (IsAtom (n + 1)) e.guard (atoms_at (n + 1) f.guard (after n e)) j.atoms (all_sized (n + 1) f.guard (after n e) c.atoms);
   unchosen = λ q. let a = neither e.any f.any q in let u = j.unchosen a.0 in let v = k.unchosen a.1 in record {
-    guard = AllAtoms-++ (AtomSkips n) e.guard (atoms_at (n + 1) f.guard (after n e)) u.guard (atoms_skip n e f.guard j u v.guard);
+    guard = each-++ (AtomSkips n) e.guard (atoms_at (n + 1) f.guard (after n e)) u.guard (atoms_skip n e f.guard j u v.guard);
     update = forms_skip n e f.update j u v.update;
     cost = skip-plus n e.cost.terms (composition_of f.cost (after n e)).terms u.cost (form_skips n e f.cost j u v.cost);
   };

@@ -15,7 +15,7 @@ use Rattle.dc_poly.specs.Sums.{zeros, values, composition_of, places_of, sum_of}
 use Rattle.dc_poly.specs.Affine.{units}
 use Rattle.dc_poly.proofs.Values.{value-composed, value-plus}
 use Rattle.dc_affine.specs.declared.atom.Atom.{Atom}
-use Rattle.dc_affine.specs.Atoms.{atom_value, holds_at, all_hold, AllAtoms}
+use Rattle.dc_affine.specs.Atoms.{atom_value, holds_at, all_hold}
 use Rattle.dc_affine.proofs.Units.{read_value}
 use Rattle.dc_affine.proofs.FormLaws.{and_both}
 use Rattle.dc_system.specs.declared.edges.Edge.{Edge}
@@ -121,7 +121,7 @@ dot_skips (suc n) (c ∷ cs) [] y z h k = absurd (omega arith)
 dot_skips zero (c ∷ cs) (x ∷ s) y z h k = absurd (omega arith)
 dot_skips (suc n) (c ∷ cs) (x ∷ s) y z h k = ap (λ v. c *ℤ x +ℤ v) (dot_skips n cs s y z h (omega arith))
 
-atoms_skip : (n : ℕ) (gs : List Atom) (s : State) (y z : ℤ) → AllAtoms (AtomSkips n) gs → length s ≡ n → all_hold gs (at s y) ≡ all_hold gs (at s z)
+atoms_skip : (n : ℕ) (gs : List Atom) (s : State) (y z : ℤ) → AllByRecursion (AtomSkips n) gs → length s ≡ n → all_hold gs (at s y) ≡ all_hold gs (at s z)
 atoms_skip n [] s y z h k = refl
 atoms_skip n (a ∷ gs) s y z h k = ap₂ ◌&&◌ (ap (λ v. int_le (pos 0) (a.c0 +ℤ v)) (dot_skips n a.coefs s y z h.0 k)) (atoms_skip n gs s y z h.1 k)
 

@@ -3,6 +3,7 @@ use Rattle.std.specs.Prelude.{◌≡◌, ℕ, zero, suc, ◌+◌, ◌*◌, ◌^�
 use Rattle.std.specs.List.{AllByRecursion}
 use Rattle.std.proofs.Common.{sym, ◌∙◌, ap, subst, arith}
 use Rattle.std.proofs.lemmas.List.{append_assoc, append-nil, drop_more, drop_all}
+use Rattle.dc_math.specs.Members.{each_is}
 use Rattle.dc_poly.specs.Terms.{degree_of, weight, Polynomial}
 use Rattle.dc_poly.specs.Sums.{composition_of, places_of}
 use Rattle.dc_poly.specs.Conditions.{HavePlaces, composed_weight, CanSubst, CanAdd}
@@ -61,11 +62,6 @@ can_cost m p q r vs h j k o e = subst (CanAdd p) (sym e) (record {
     first_places (v ∷ vs) k = k.forms.0.has_places
 
 -- ---- the loop over forms
-pub each_form : (P : Polynomial → Type 0) (ps : List Polynomial) (k : ℕ) (p : Polynomial) → AllByRecursion P ps → k < length ps → p ≡ get_or ps k p → P p
-each_form P [] k a h l e = absurd (omega arith)
-each_form P (b ∷ ps) zero a h l e = subst P (sym e) h.0
-each_form P (b ∷ ps) (suc k) a h l e = each_form P ps k a h.1 (omega arith) e
-
 pub record Forming (ps vs : List Polynomial) (k : ℕ) (o : List Polynomial) : Type 0 where
   pub fits : forms_fit (forms_at ps vs) ≡ forms_fit (forms_at (drop k ps) vs)
   pub so_far : o ++ forms_at (drop k ps) vs ≡ forms_at ps vs
@@ -86,4 +82,4 @@ form_bars ps vs k o p r h e f t w =
 pub form_done : (ps vs : List Polynomial) (k : ℕ) (o : List Polynomial) → length ps ≤ k → Forming ps vs k o → (forms_fit (forms_at ps vs) ≡ true) × (o ≡ forms_at ps vs)
 form_done ps vs k o h w = let d = drop_all k ps h in (w.fits ∙ ap (λ y. forms_fit (forms_at y vs)) d, sym (append-nil o) ∙ ap (λ y. o ++ forms_at y vs) (sym d) ∙ w.so_far)
 
-pub ruleset forming = (form_more, form_bars, form_done, each_form)
+pub ruleset forming = (form_more, form_bars, form_done, each_is)

@@ -6,7 +6,7 @@ use Rattle.dc_math.specs.Members.{Among, each_left, each_right, among-one, among
 use Rattle.dc_syntax.specs.declared.tree.Cond.{Cond}
 use Rattle.dc_syntax.specs.declared.tree.Stmt.{Stmt, Stmt-F, roll-Stmt, map-Stmt, fold-roll-Stmt}
 use Rattle.dc_syntax.specs.declared.tree.Stmt.TheOpen.{Skip, Assign, AnyOf, Between, Tick, Assume, If, IfAny, While, WhileAny}
-use Rattle.dc_syntax.specs.Trees.{AllStmts, EachStmt}
+use Rattle.dc_syntax.specs.Trees.{EachStmt}
 use Rattle.dc_syntax.proofs.Inductions.{Stmt-induction}
 use Rattle.dc_affine.specs.Forms.{is_below, affine_fault}
 use Rattle.dc_affine.specs.Table.{Fact, facts_of}
@@ -48,7 +48,7 @@ Few k = k ≤ 64
 abbrev Kept : ℕ → Stmt → Type 0
 Kept n S = statement_passes n S ≡ true → AllByRecursion Few (stmt_operators S) → (k l : ℕ) → Labelled n ((piece S).place k l)
 
-labelled_block : (n : ℕ) (A : List Stmt) → AllStmts (Kept n) A → all_pass n A ≡ true → AllByRecursion Few (operators_of A) → (k l : ℕ) → Labelled n (placed (pieces A) k l)
+labelled_block : (n : ℕ) (A : List Stmt) → AllByRecursion (Kept n) A → all_pass n A ≡ true → AllByRecursion Few (operators_of A) → (k l : ℕ) → Labelled n (placed (pieces A) k l)
 labelled_block n [] h b o k l = λ e i. elim i [ ]
 labelled_block n (S ∷ R) h b o k l =
     let p = and_both (statement_passes n S) (all_pass n R) b in
@@ -60,10 +60,10 @@ joined_map : (A : List Stmt) → joined (map stmt_operators A) ≡ operators_of 
 joined_map [] = refl
 joined_map (S ∷ R) = ap (λ x. stmt_operators S ++ x) (joined_map R)
 
-inner_block : (n : ℕ) (A : List Stmt) → AllStmts (Kept n) A → each (map (statement_passes n) A) ≡ true → AllByRecursion Few (joined (map stmt_operators A)) → (k l : ℕ) → Labelled n (placed (pieces A) k l)
+inner_block : (n : ℕ) (A : List Stmt) → AllByRecursion (Kept n) A → each (map (statement_passes n) A) ≡ true → AllByRecursion Few (joined (map stmt_operators A)) → (k l : ℕ) → Labelled n (placed (pieces A) k l)
 inner_block n A h b o k l = labelled_block n A h (sym (each_all n A) ∙ b) (subst (AllByRecursion Few) (joined_map A) o) k l
 
-two_blocks : (n : ℕ) (A B : List Stmt) → AllStmts (Kept n) A × AllStmts (Kept n) B → (each (map (statement_passes n) A) && each (map (statement_passes n) B)) ≡ true → AllByRecursion Few (joined (map stmt_operators A) ++ joined (map stmt_operators B)) → (k l : ℕ)
+two_blocks : (n : ℕ) (A B : List Stmt) → AllByRecursion (Kept n) A × AllByRecursion (Kept n) B → (each (map (statement_passes n) A) && each (map (statement_passes n) B)) ≡ true → AllByRecursion Few (joined (map stmt_operators A) ++ joined (map stmt_operators B)) → (k l : ℕ)
     → Labelled n (placed (pieces A) (k + 1) l ++ placed (pieces B) (k + 1 + sizes (pieces A)) l)
 two_blocks n A B h b o k l =
     let p = and_both (each (map (statement_passes n) A)) (each (map (statement_passes n) B)) b in
@@ -104,7 +104,7 @@ kept n S = Stmt-induction (Kept n) (λ L h b o k l.
     let u : stmt_operators (roll-Stmt L) ≡ stmt_operators_step (map-Stmt Stmt (List ℕ) stmt_operators L) = fold-roll-Stmt (List ℕ) stmt_operators_step L in
     subst (λ (p : Piece). Labelled n (p.place k l)) (sym e) (at_layer n L h (parts n (map-Stmt Stmt Bool (statement_passes n) L) (sym t ∙ b)) (subst (AllByRecursion Few) u o) k l)) S
 
-all_kept : (n : ℕ) (A : List Stmt) → AllStmts (Kept n) A
+all_kept : (n : ℕ) (A : List Stmt) → AllByRecursion (Kept n) A
 all_kept n [] = tt
 all_kept n (S ∷ R) = (kept n S, all_kept n R)
 

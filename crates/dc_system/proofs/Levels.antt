@@ -23,7 +23,7 @@ use Rattle.dc_poly.proofs.Padded.{Places-plus, Places-negated}
 use Rattle.dc_poly.specs.NormalForm.{most}
 use Rattle.dc_affine.specs.Forms.{Formed, formed, is_below, below_step, affine_fault}
 use Rattle.dc_affine.specs.Table.{Fact, fact, fact_true, all_of, facts_of}
-use Rattle.dc_affine.specs.Atoms.{holds_at, all_hold, AllFit, IsAtom, AllAtoms, gap_of, atom_of, cond_is_below, comparison_fault}
+use Rattle.dc_affine.specs.Atoms.{holds_at, all_hold, AllFit, IsAtom, gap_of, atom_of, cond_is_below, comparison_fault}
 use Rattle.dc_affine.proofs.FormLaws.{form_value, form_proper, formed-Var}
 use Rattle.dc_affine.proofs.CaseLaws.{IsFlat, EachFlat, cases_flat}
 use Rattle.dc_affine.proofs.Fits.{coef_fits}
@@ -99,7 +99,7 @@ atom_sized m f h =
     less : (x : ℤ) (k : ℕ) → unsigned_abs x ≤ most → k ≤ 1 → unsigned_abs (x -ℤ pos k) ≤ 2147483648
     less x k h l = omega (arith, ints)
 
-pub all_sized : (m : ℕ) (fs : List Fact) → AllByRecursion (IsLevel m) fs → AllAtoms (IsAtom m) (map (atom_of m) fs)
+pub all_sized : (m : ℕ) (fs : List Fact) → AllByRecursion (IsLevel m) fs → AllByRecursion (IsAtom m) (map (atom_of m) fs)
 all_sized m [] h = tt
 all_sized m (f ∷ fs) h = (atom_sized m f h.0, all_sized m fs h.1)
 

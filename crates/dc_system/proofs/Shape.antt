@@ -15,7 +15,7 @@ use Rattle.dc_poly.proofs.Closed.{is_constant, is_variable}
 use Rattle.dc_poly.specs.NormalForm.{IsNormalForm}
 use Rattle.dc_affine.specs.Forms.{formed, form_of, is_below}
 use Rattle.dc_affine.specs.Table.{Fact, fact}
-use Rattle.dc_affine.specs.Atoms.{AllAtoms, atom_of, gap_of}
+use Rattle.dc_affine.specs.Atoms.{atom_of, gap_of}
 use Rattle.dc_affine.proofs.FormLaws.{form_proper}
 use Rattle.dc_graph.specs.Labels.{Label, Arrow, arrow, idle, sets, picks, picks_in, pays, tests}
 use Rattle.dc_graph.specs.Pieces.{arrows_of}
@@ -106,7 +106,7 @@ fact_skips n f h =
     units_at (coef (gap_of (n + 1) f.big f.small)) (n + 1) n (omega arith)
     ∙ ap (λ p. coef p (unit_at (n + 1) n)) (gap_wider n f.big f.small h.big h.small) ∙ wide_coef_last n (gap_of n f.big f.small) (gap_padded n f.big f.small)
 
-facts_skip : (n : ℕ) (fs : List Fact) → AllByRecursion (FactBelow n) fs → AllAtoms (AtomSkips n) (map (atom_of (n + 1)) fs)
+facts_skip : (n : ℕ) (fs : List Fact) → AllByRecursion (FactBelow n) fs → AllByRecursion (AtomSkips n) (map (atom_of (n + 1)) fs)
 facts_skip n [] h = tt
 facts_skip n (f ∷ fs) h = (fact_skips n f h.0, facts_skip n fs h.1)
 

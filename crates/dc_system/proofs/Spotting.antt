@@ -4,14 +4,13 @@ use Rattle.std.specs.declared.option.Option.{Option}
 use Rattle.std.specs.List.{AllByRecursion}
 use Rattle.std.proofs.Common.{sym, ◌∙◌, ap, ap₂, subst, arith, inl, inr}
 use Rattle.std.proofs.lemmas.Bool.{eqb-true, eq-eqb, ne_eqb, cases_order}
-use Rattle.dc_math.specs.Members.{Among, head, each_among}
+use Rattle.dc_math.specs.Members.{Among, head, each_is, each_among}
 use Rattle.dc_system.specs.declared.edges.Edge.{Edge}
 use Rattle.dc_system.specs.declared.folding.Spot.{Spot}
 use Rattle.dc_system.specs.Shapes.{IsWithin}
 use Rattle.dc_system.specs.Composed.{compose_of}
 use Rattle.dc_system.specs.Folded.{into, out_of, joint, fold_at, folded}
 use Rattle.dc_system.specs.Spots.{IsOnly, IsSpotAt, IsLeast}
-use Rattle.dc_system.proofs.Sums.{each_at}
 use Rattle.dc_system.proofs.Filters.{in_kept}
 
 -- ---- one location
@@ -147,7 +146,7 @@ set_only p (e ∷ es) k c d h q = by (p e) refl k h q (λ j i r. set_only p es j
 pub folded_in_place : (l k : ℕ) (c d : Edge) (es os ps : List Edge) → k < length es → into l es ≡ get_or es k d ∷ [] → os ≡ slice_set es k c → ps ≡ filter (λ (e : Edge). not (eqb e.from l)) os → ps ≡ folded l c es
 folded_in_place l k c d es os ps h q e f = f ∙ ap (filter (λ (e : Edge). not (eqb e.from l))) (e ∙ set_only (λ (e : Edge). eqb e.to l) es k c d h q)
 
-pub ruleset spotting = (at_entry, at_exit, none_in, none_out, two_at, loop_in, loop_out, composed_there, edges_meet, each_at)
+pub ruleset spotting = (at_entry, at_exit, none_in, none_out, two_at, loop_in, loop_out, composed_there, edges_meet, each_is)
 
 pub ruleset leasts = (less_more, least_found, none_least)
 

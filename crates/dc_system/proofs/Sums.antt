@@ -19,11 +19,6 @@ fit_at [] k c h l e = absurd (omega arith)
 fit_at (x ∷ cs) zero c h l e = subst (λ z. unsigned_abs z ≤ most) (sym e) h.0
 fit_at (x ∷ cs) (suc k) c h l e = fit_at cs k c h.1 (omega arith) e
 
-pub each_at : {A : Type 0} (P : A → Type 0) (xs : List A) (k : ℕ) (x : A) → AllByRecursion P xs → k < length xs → x ≡ get_or xs k x → P x
-each_at P [] k x h l e = absurd (omega arith)
-each_at P (y ∷ xs) zero x h l e = subst P (sym e) h.0
-each_at P (y ∷ xs) (suc k) x h l e = each_at P xs k x h.1 (omega arith) e
-
 pub dot_step : (cs : List ℤ) (vs : List Polynomial) (k : ℕ) (c : ℤ) (v : Polynomial) (u : Exponents) (o p q f : ℤ) → k < length cs → k < length vs → c ≡ get_or cs k (pos 0) → v ≡ get_or vs k v → p ≡ c *ℤ coef v.terms u → q ≡ o +ℤ p
     → o +ℤ coef_at (drop k cs) (drop k vs) u ≡ f → q +ℤ coef_at (drop (k + 1) cs) (drop (k + 1) vs) u ≡ f
 dot_step cs vs k c v u o p q f h g a b d e i =

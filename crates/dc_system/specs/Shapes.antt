@@ -4,7 +4,7 @@ use Rattle.std.specs.List.{AllByRecursion}
 use Rattle.dc_poly.specs.Terms.{TermList, Polynomial, IsPolynomial}
 use Rattle.dc_affine.specs.declared.atom.Atom.{Atom}
 use Rattle.dc_poly.specs.NormalForm.{IsNormalForm}
-use Rattle.dc_affine.specs.Atoms.{IsAtom, AllAtoms}
+use Rattle.dc_affine.specs.Atoms.{IsAtom}
 use Rattle.dc_system.specs.declared.edges.Edge.{Edge}
 use Rattle.dc_system.specs.declared.edges.System.{System}
 
@@ -28,7 +28,7 @@ AtomSkips n a = slice_index_or a.coefs n (pos 0) ≡ pos 0
 
 -- an edge that mentions no chosen value
 pub record IsUnchosen (n : ℕ) (e : Edge) : Type 0 where
-  pub guard : AllAtoms (AtomSkips n) e.guard
+  pub guard : AllByRecursion (AtomSkips n) e.guard
   pub update : AllByRecursion (Skips n) e.update
   pub cost : Skips n e.cost
 
@@ -38,7 +38,7 @@ pub record IsEdge (n : ℕ) (e : Edge) : Type 0 where
   pub updates : AllByRecursion (IsForm (n + 1)) e.update
   pub cost : IsForm (n + 1) e.cost
   pub few_atoms : length e.guard ≤ 256
-  pub atoms : AllAtoms (IsAtom (n + 1)) e.guard
+  pub atoms : AllByRecursion (IsAtom (n + 1)) e.guard
   pub unchosen : e.any ≡ false → IsUnchosen n e
 
 -- an edge between the first locations

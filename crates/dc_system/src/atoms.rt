@@ -3,7 +3,7 @@ ghost use Rattle.std.specs.Prelude.{ℕ, ◌≡◌, ◌≤◌, ◌*◌, ◌++◌
 ghost use Rattle.std.specs.List.{AllByRecursion};
 ghost use Rattle.dc_poly.specs.Terms.{coef as coef_of};
 ghost use Rattle.dc_poly.specs.NormalForm.{most};
-ghost use Rattle.dc_affine.specs.Atoms.{AllAtoms, AllFit, IsAtom};
+ghost use Rattle.dc_affine.specs.Atoms.{AllFit, IsAtom};
 ghost use Rattle.dc_system.specs.Composed.{atom_at, atom_fits, atoms_at, atoms_fit, coef_at};
 ghost use Rattle.dc_system.specs.Small.{IsGuard, IsSmall};
 
@@ -111,7 +111,7 @@ pub(crate) fn guard_with(
     places: usize,
 ) -> Result<Option<Vec<Atom>>, AllocError>
     requires few { places ≤ 11 }
-    requires sized { AllAtoms (IsAtom places) second.now }
+    requires sized { AllByRecursion (IsAtom places) second.now }
     requires values { AllByRecursion IsSmall values.now }
     ensures { IfOk result
         (λ o. IsGuard (atoms_fit (atoms_at places second.now values.now))

@@ -2,6 +2,7 @@
 use Rattle.std.specs.Prelude.{◌≡◌, ℕ, zero, suc, ◌+◌, ◌<◌, ◌≤◌, Bool, true, false, cond, if◌then◌else◌, List, [], ◌∷◌, ◌++◌, flat_map, length, map, replicate, ℤ, pos, neg_ℤ}
 use Rattle.std.specs.List.{range_with_len, AllByRecursion}
 use Rattle.std.proofs.Common.{refl, sym, ◌∙◌, ap, ap₂, subst, arith}
+use Rattle.dc_math.specs.Members.{each-++}
 use Rattle.dc_lp.specs.declared.Entry.{Entry}
 use Rattle.dc_poly.specs.Terms.{Exponents, TermList, Polynomial, polynomial, coef}
 use Rattle.dc_poly.specs.Sums.{negated}
@@ -44,10 +45,6 @@ no_entries : (r : ℕ) (zs : List ℤ) → AllByRecursion (λ z. z ≡ pos 0) zs
 no_entries r [] h = refl
 no_entries r (z ∷ zs) h = ap (λ y. entry_at r y ++ entries_from (suc r) zs) h.0 ∙ no_entries (suc r) zs h.1
 
-each_++ : {A : Type 0} (P : A → Type 0) (xs ys : List A) → AllByRecursion P xs → AllByRecursion P ys → AllByRecursion P (xs ++ ys)
-each_++ P [] ys h g = g
-each_++ P (x ∷ xs) ys h g = (h.0, each_++ P xs ys h.1 g)
-
 each_zero : {A : Type 0} (f : A → ℤ) (xs : List A) → ((x : A) → f x ≡ pos 0) → AllByRecursion (λ z. z ≡ pos 0) (map f xs)
 each_zero f [] h = tt
 each_zero f (x ∷ xs) h = (h x, each_zero f xs h)
@@ -71,7 +68,7 @@ module _ (p : Pair) (d k : ℕ) where
   foreign_numbers o i [] h = tt
   foreign_numbers o i (c ∷ os) h =
       subst (AllByRecursion (λ z. z ≡ pos 0)) (sym (map-++ (λ q. entry_of p d k q (Times o i)) (equations_at p d k c) (equations_in p d k os)))
-      (each_++ (λ z. z ≡ pos 0) _ _ (subst (AllByRecursion (λ z. z ≡ pos 0)) (sym (numbers_at c (Times o i))) (each_zero _ (monos_at p d k c) (λ m. foreign o c i m h.0))) (foreign_numbers o i os h.1))
+      (each-++ (λ z. z ≡ pos 0) _ _ (subst (AllByRecursion (λ z. z ≡ pos 0)) (sym (numbers_at c (Times o i))) (each_zero _ (monos_at p d k c) (λ m. foreign o c i m h.0))) (foreign_numbers o i os h.1))
 
   length-equations : (o : Duty) → length (equations_at p d k o) ≡ length (monos_at p d k o)
   length-equations o = length_map (equation o) (monos_at p d k o)

@@ -4,7 +4,7 @@ use Rattle.std.specs.List.{AllByRecursion}
 use Rattle.std.proofs.Common.{refl, sym, ◌∙◌, ap, ap₂, subst, arith, inl, inr}
 use Rattle.std.proofs.lemmas.Int.{ints}
 use Rattle.std.proofs.lemmas.List.Sums.{sum_by-cons, sum_by-append}
-use Rattle.dc_math.specs.Members.{Among}
+use Rattle.dc_math.specs.Members.{Among, each-++}
 use Rattle.dc_math.specs.OrderedLists.{Ordered}
 use Rattle.dc_lp.specs.declared.Entry.{Entry}
 use Rattle.dc_lp.specs.Problems.{weight}
@@ -110,10 +110,6 @@ both_light n r ms [] o h = tt
 both_light n r ms (q ∷ qs) o h =
     ((let a = entries_light r ms q o in let b = h.0.light in omega arith), ((let a = opposite_light r ms q o in let b = h.0.light in omega arith), both_light n r ms qs o h.1))
 
-all_++ : {A : Type 0} (P : A → Type 0) (xs ys : List A) → AllByRecursion P xs → AllByRecursion P ys → AllByRecursion P (xs ++ ys)
-all_++ P [] ys h g = g
-all_++ P (x ∷ xs) ys h g = (h.0, all_++ P xs ys h.1 g)
-
 products_light : (n k r : ℕ) (ms : List Exponents) (qs : List Polynomial) → k ≤ 3 → Ordered Before ms → All (IsProduct n k) qs → AllByRecursion (λ es. weight es ≤ product_weight) (map (opposite_entries r ms) qs)
 products_light n k r ms [] l o h = tt
 products_light n k r ms (q ∷ qs) l o h =
@@ -127,7 +123,7 @@ weighed_more p d k n o b t u l h g e =
       unknowns = subst (AllByRecursion (λ es. weight es ≤ (n + 1) * part_weight)) (sym e.unknowns)
           (extended_light n part_weight (lists t.unknowns.items) (flat_map (both_entries t.rows b.monos.items) b.parts.items) h.unknowns (both_light (places_of p o) t.rows b.monos.items b.parts.items ordered g.part_kinds));
       products = subst (AllByRecursion (λ es. weight es ≤ product_weight)) (sym e.products)
-          (all_++ (λ es. weight es ≤ product_weight) (lists t.products.items) (map (opposite_entries t.rows b.monos.items) b.products.items) h.products (products_light (places_of p o) k t.rows b.monos.items b.products.items l ordered g.product_kinds));
+          (each-++ (λ es. weight es ≤ product_weight) (lists t.products.items) (map (opposite_entries t.rows b.monos.items) b.products.items) h.products (products_light (places_of p o) k t.rows b.monos.items b.products.items l ordered g.product_kinds));
       b = subst (λ zs. sum_by unsigned_abs zs ≤ (n + 1) * part_weight) (sym e.b) (right_sides ordered);
     }
   where

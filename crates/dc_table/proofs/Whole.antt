@@ -5,7 +5,7 @@ use Rattle.std.specs.List.{AllByRecursion, range_with_len}
 use Rattle.std.proofs.Common.{refl, sym, ◌∙◌, ap, ap₂, subst, arith}
 use Rattle.std.proofs.lemmas.Int.{ints}
 use Rattle.std.proofs.lemmas.List.{length-replicate}
-use Rattle.dc_math.specs.Members.{each_all, each-++, each-map, each-flat_map}
+use Rattle.dc_math.specs.Members.{each_all, each-++, each-map, each-flat_map, each_at_or}
 use Rattle.dc_math.specs.Rational.{of_ℤ}
 use Rattle.dc_lp.specs.declared.Entry.{Entry}
 use Rattle.dc_lp.specs.declared.Problem.{Problem}
@@ -39,11 +39,6 @@ unfolding value_or
 at_index g z [] i = refl
 at_index g z (x ∷ xs) zero = refl
 at_index g z (x ∷ xs) (suc i) = at_index g z xs i
-
-index_all : {A : Type 0} (P : A → Type 0) (xs : List A) (i : ℕ) (z : A) → AllByRecursion P xs → P z → P (slice_index_or xs i z)
-index_all P [] i z h d = d
-index_all P (x ∷ xs) zero z h d = h.0
-index_all P (x ∷ xs) (suc i) z h d = index_all P xs i z h.1 d
 
 -- ---- costs
 abbrev IsFree : Column → Type 0
@@ -183,9 +178,9 @@ module _ (p : Pair) (d k : ℕ) (f : Flags) where
         right_sides = ap length (g.b ∙ h.b) ∙ length_map (right_of p d k) equations ∙ sym (g.rows ∙ h.rows);
         costs = ap length costs ∙ length_map cost_in columns ∙ sym count;
         columns = λ j l. record {
-          entries = index_all (λ es. AreEntries 0 r.rows es) (lists r.columns.items) j [] (subst (AllByRecursion (λ es. AreEntries 0 r.rows es)) (sym columns_are) (all_rise columns)) tt;
-          weight = index_all (λ es. weight es < 2 ^ 127) (lists r.columns.items) j [] all_light (omega arith);
+          entries = each_at_or (λ es. AreEntries 0 r.rows es) (lists r.columns.items) j [] (subst (AllByRecursion (λ es. AreEntries 0 r.rows es)) (sym columns_are) (all_rise columns)) tt;
+          weight = each_at_or (λ es. weight es < 2 ^ 127) (lists r.columns.items) j [] all_light (omega arith);
         };
         right_side_weight = below _ (subst (λ b. sum_by unsigned_abs b ≤ n * part_weight) (sym g.b) w.b);
-        cost_sizes = λ j l. index_all (λ z. unsigned_abs z < 2 ^ 127) r.cost.items j (pos 0) (subst (AllByRecursion (λ z. unsigned_abs z < 2 ^ 127)) (sym costs) (small_costs columns)) (omega arith);
+        cost_sizes = λ j l. each_at_or (λ z. unsigned_abs z < 2 ^ 127) r.cost.items j (pos 0) (subst (AllByRecursion (λ z. unsigned_abs z < 2 ^ 127)) (sym costs) (small_costs columns)) (omega arith);
       }

@@ -1,10 +1,11 @@
 use Rattle.std.proofs.Common.{◌≡◌, ◌<◌, ◌≤◌, ◌∙◌, sym, ap, subst, arith, length, get_or, min, List}
+use Rattle.dc_math.specs.Members.{each_is}
 use Rattle.dc_affine.specs.declared.atom.Atom.{Atom}
 use Rattle.dc_cert.specs.declared.sparse.Sparse.{Sparse}
 use Rattle.dc_cert.specs.Ranges.{AreKeeps}
 use Rattle.dc_clauses.specs.Steps.{counted, first_failure}
 use Rattle.dc_clauses.specs.Sides.{entry_test, paired, atoms_at}
-use Rattle.dc_clauses.proofs.Shaped.{case_keeps, each_one}
+use Rattle.dc_clauses.proofs.Shaped.{case_keeps}
 use Rattle.dc_clauses.proofs.Walks.{length-paired, walk_more, walk_stops, walk_ends_least}
 use Rattle.dc_clauses.proofs.keeps.entry_walk.Goals as goal
 
@@ -50,7 +51,7 @@ loop-k-preserved c =
     walk_more (λ case ks. paired (entry_test c.args.s.now case) (atoms_at c.args.x.now 0) ks) c.args.cases.now c.args.x.now.entry_keeps 3 c.args.start c.loop-k.k c.loop-k.next c.loop-k.invariant
     c.as_slice.result.now c.as_slice-keeps.result.now l m e q (length c.as_slice-keeps.result.now)
     (sym (length-paired (entry_test c.args.s.now c.as_slice.result.now) (atoms_at c.args.x.now 0) c.as_slice-keeps.result.now h.0))
-    (each_one AreKeeps c.args.x.now.entry_keeps c.loop-k.k c.as_slice-keeps.result.now c.requires.part.entry_keeps m q).few
+    (each_is AreKeeps c.args.x.now.entry_keeps c.loop-k.k c.as_slice-keeps.result.now c.requires.part.entry_keeps m q).few
     (sym c.in_default.is ∙ c.in_ok-found.ensures ∙ ap (λ xs. first_failure (counted 3 c.loop-k.next (paired (entry_test c.args.s.now c.as_slice.result.now) xs c.as_slice-keeps.result.now))) c.atoms_at-atoms.ensures)
 
 pub returns-clause-walk : goal.returns-clause-walk

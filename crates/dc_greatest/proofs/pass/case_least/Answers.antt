@@ -1,8 +1,9 @@
 -- The least bound of a row with the locals 0, by a case.
 use Rattle.std.specs.Prelude.{◌≡◌, ◌<◌, ◌^◌, length, take, sum_by, unsigned_abs, slice_index_or}
+use Rattle.std.specs.List.{AllByRecursion}
 use Rattle.std.proofs.Common.{refl, sym, ◌∙◌, ap, subst}
 use Rattle.std.proofs.lemmas.Result.{IfOk-weaker, IfErr-weaker}
-use Rattle.dc_affine.specs.Atoms.{AllAtoms, IsAtom}
+use Rattle.dc_affine.specs.Atoms.{IsAtom}
 use Rattle.dc_points.specs.Stated.{rational}
 use Rattle.dc_entail.specs.Answers.{IsSolveFault}
 use Rattle.dc_rows.specs.Candidate.{row_at}
@@ -21,7 +22,7 @@ least_bound-requires-clause-atoms g c =
     let is : c.index-as_slice-row.result ≡ slice_index_or k.rows r c.index-as_slice-row.result = subst (λ xs. c.index-as_slice-row.result ≡ slice_index_or xs r c.index-as_slice-row.result) c.as_slice.ensures c.index-as_slice-row.is in
     let R = row_read k.rows r c.index-as_slice-row.result c.as_slice-2.result.now c.requires.row is c.as_slice-2.ensures in
     let X : c.deref.result.now ≡ take t.system.now.params (row_at k r) = c.deref.ensures.value ∙ c.in-Ok.ensures ∙ ap (take t.system.now.params) R in
-    subst (λ f. AllAtoms (IsAtom (length f)) c.args.case.now) (sym X) (case_kind (graph t) k kind few r c.requires.row c.args.case.now t.cases.now c.requires.lent.condition.atoms c.requires.case)
+    subst (λ f. AllByRecursion (IsAtom (length f)) c.args.case.now) (sym X) (case_kind (graph t) k kind few r c.requires.row c.args.case.now t.cases.now c.requires.lent.condition.atoms c.requires.case)
 
 pub least_bound-requires-clause-light : goal.least_bound-requires-clause-light
 least_bound-requires-clause-light g c =

@@ -1,12 +1,13 @@
 -- The form of a row after an edge, its least bound, and what that says of the row.
 use Rattle.std.specs.Prelude.{◌≡◌, ◌<◌, ◌^◌, true, false, [], length, take, sum_by, unsigned_abs, slice_index_or}
+use Rattle.std.specs.List.{AllByRecursion}
 use Rattle.std.proofs.Common.{sym, ◌∙◌, ap, subst, inl, arith}
 use Rattle.std.proofs.lemmas.Result.{IfOk-weaker, IfErr-weaker}
 use Rattle.dc_math.specs.Members.{each_among, at_among}
 use Rattle.dc_system.specs.After.{is_affine_after, row_after_of}
 use Rattle.dc_system.specs.declared.rows.RowAfter.{RowAfter}
 use Rattle.dc_system.specs.Shapes.{IsEdge}
-use Rattle.dc_affine.specs.Atoms.{AllAtoms, IsAtom}
+use Rattle.dc_affine.specs.Atoms.{IsAtom}
 use Rattle.dc_points.specs.Points.{IsDead}
 use Rattle.dc_points.specs.Stated.{rational}
 use Rattle.dc_entail.specs.Answers.{IsSolveFault}
@@ -71,8 +72,8 @@ least_bound-requires-clause-atoms g c =
     let R = row_read k.rows r c.index-as_slice-row.result c.as_slice-2.result.now c.requires.row is c.as_slice-2.ensures in
     let A : c.in-Ok.after ≡ row_after_of n e (row_at k r) = c.in-Ok.ensures.row ∙ ap (row_after_of n e) R in
     let X = form_read n e (row_at k r) c.in-Ok.after c.edge_places-places.result c.as_slice-3.result.now A c.edge_places-places.ensures c.as_slice-3.ensures in
-    subst (λ hs. AllAtoms (IsAtom (length (take c.edge_places-places.result c.as_slice-3.result.now))) hs) (sym c.requires.hyps)
-    (subst (λ f. AllAtoms (IsAtom (length f)) (cut_atoms (graph t) k J kind h e shape)) (sym X) (form_kind (graph t) k J kind h e shape r c.requires.row))
+    subst (λ hs. AllByRecursion (IsAtom (length (take c.edge_places-places.result c.as_slice-3.result.now))) hs) (sym c.requires.hyps)
+    (subst (λ f. AllByRecursion (IsAtom (length f)) (cut_atoms (graph t) k J kind h e shape)) (sym X) (form_kind (graph t) k J kind h e shape r c.requires.row))
 
 pub least_bound-requires-clause-light : goal.least_bound-requires-clause-light
 least_bound-requires-clause-light g c =

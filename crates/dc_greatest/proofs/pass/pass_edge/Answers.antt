@@ -1,9 +1,10 @@
 -- An edge whose source has false is not asked for; a dead edge gives everything; along a live one false is dropped and the rows are lowered.
 use Rattle.std.specs.Prelude.{◌≡◌}
+use Rattle.std.specs.List.{AllByRecursion}
 use Rattle.std.proofs.Common.{rules, sym, ◌∙◌, ap, subst, arith}
 use Rattle.std.proofs.lemmas.Result.{IfErr-weaker}
 use Rattle.dc_math.specs.Members.{each_among}
-use Rattle.dc_affine.specs.Atoms.{AllAtoms, IsAtom}
+use Rattle.dc_affine.specs.Atoms.{IsAtom}
 use Rattle.dc_system.specs.Shapes.{IsEdge, IsWithin as EndsWithin}
 use Rattle.dc_points.specs.Points.{IsDead, MeetsAll}
 use Rattle.dc_points.specs.Stated.{rational}
@@ -88,7 +89,7 @@ empty-requires g c =
     c.in_ok-hyps.ensures ∙ ap (λ xs. with_guard P xs e) (c.in_ok-atoms.ensures ∙ source_list (graph t) k at kind c.requires.shape e.from ends.from d c.index-at-edge.is c.if-source.false)
     ∙ ap (λ m. with_guard m (atoms_at n k J e.from) e) c.edge_places-places.ensures in
     let HY : c.deref.result.now ≡ cut_atoms (graph t) k J kind h e shape = c.deref.ensures.value ∙ HS in
-    record { atoms = subst (AllAtoms (IsAtom P)) (sym HY) (subst (λ m. AllAtoms (IsAtom m) (cut_atoms (graph t) k J kind h e shape)) (sym c.edge_places-places.ensures) (cut_kind (graph t) k J kind h e shape)) }
+    record { atoms = subst (AllByRecursion (IsAtom P)) (sym HY) (subst (λ m. AllByRecursion (IsAtom m) (cut_atoms (graph t) k J kind h e shape)) (sym c.edge_places-places.ensures) (cut_kind (graph t) k J kind h e shape)) }
 
 pub returns-in-Ok-Dead-clause-answer : goal.returns-in-Ok-Dead-clause-answer
 returns-in-Ok-Dead-clause-answer g c =

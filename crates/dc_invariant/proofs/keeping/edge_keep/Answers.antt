@@ -1,6 +1,7 @@
+use Rattle.std.specs.List.{AllByRecursion}
 use Rattle.std.proofs.Common.{◌<◌, ◌≤◌, ◌^◌, ◌∙◌, List, sym, ap, subst, take, length}
 use Rattle.std.specs.Prelude.{ℤ, sum_by, unsigned_abs}
-use Rattle.dc_affine.specs.Atoms.{AllFit, IsAtom, AllAtoms}
+use Rattle.dc_affine.specs.Atoms.{AllFit, IsAtom}
 use Rattle.dc_system.specs.declared.rows.RowAfter.{RowAfter}
 use Rattle.dc_entail.specs.declared.answer.Place.TheVariants as place
 use Rattle.dc_invariant.specs.Lent.{HasBound}
@@ -22,7 +23,7 @@ slice_bounds-form-end g c = sym (ap length (along_form c.args.t.now c.requires.l
 
 pub keep-requires-clause-atoms : goal.keep-requires-clause-atoms
 keep-requires-clause-atoms g c =
-    subst (λ k. AllAtoms (IsAtom k) c.args.hyps.now) (sym (ap length (along_form c.args.t.now c.requires.lent c.args.edge.now c.requires.edge c.args.atom.now c.requires.atom c.edge_places-places.result c.as_slice-2.result.now c.as_slice.result.now c.edge_places-places.ensures (c.as_slice-2.ensures ∙ ap (λ (r : RowAfter). r.coefs) (c.in_ok-row.ensures {u = tt}).row) c.as_slice.ensures) ∙ along_long c.args.t.now c.requires.lent c.args.edge.now c.requires.edge c.args.atom.now c.requires.atom))
+    subst (λ k. AllByRecursion (IsAtom k) c.args.hyps.now) (sym (ap length (along_form c.args.t.now c.requires.lent c.args.edge.now c.requires.edge c.args.atom.now c.requires.atom c.edge_places-places.result c.as_slice-2.result.now c.as_slice.result.now c.edge_places-places.ensures (c.as_slice-2.ensures ∙ ap (λ (r : RowAfter). r.coefs) (c.in_ok-row.ensures {u = tt}).row) c.as_slice.ensures) ∙ along_long c.args.t.now c.requires.lent c.args.edge.now c.requires.edge c.args.atom.now c.requires.atom))
     (cut_atoms c.args.t.now c.requires.lent c.args.edge.now c.requires.edge c.args.hyps.now c.requires.hyps)
 
 pub keep-requires-clause-live : goal.keep-requires-clause-live

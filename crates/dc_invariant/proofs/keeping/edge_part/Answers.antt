@@ -1,12 +1,13 @@
+use Rattle.std.specs.List.{AllByRecursion}
 use Rattle.std.proofs.Common.{ℕ, sym, ◌∙◌, subst, refl}
-use Rattle.dc_affine.specs.Atoms.{IsAtom, AllAtoms}
+use Rattle.dc_affine.specs.Atoms.{IsAtom}
 use Rattle.dc_cert.specs.Ranges.{is_live}
 use Rattle.dc_invariant.proofs.Keepings.{cut_atoms, line_as, flag_as, line_fault, line_fault_as, dead_part, live_part, kept_live, along_part_fault}
 use Rattle.dc_invariant.proofs.keeping.edge_part.Goals as goal
 
 pub line-requires : goal.line-requires
 line-requires g c =
-    record { atoms = subst (λ (k : ℕ). AllAtoms (IsAtom k) c.deref.result.now) (sym c.edge_places-places.ensures) (cut_atoms c.args.t.now c.requires.lent c.args.edge.now c.requires.edge c.deref.result.now (c.deref.ensures.value ∙ c.in_ok-hyps.ensures)) }
+    record { atoms = subst (λ (k : ℕ). AllByRecursion (IsAtom k) c.deref.result.now) (sym c.edge_places-places.ensures) (cut_atoms c.args.t.now c.requires.lent c.args.edge.now c.requires.edge c.deref.result.now (c.deref.ensures.value ∙ c.in_ok-hyps.ensures)) }
 
 pub returns-in-Err-clause-fault : goal.returns-in-Err-clause-fault
 returns-in-Err-clause-fault g c =

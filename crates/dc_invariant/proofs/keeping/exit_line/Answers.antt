@@ -1,7 +1,8 @@
+use Rattle.std.specs.List.{AllByRecursion}
 use Rattle.std.proofs.Common.{List, sym, subst, arith}
 use Rattle.std.specs.Prelude.{◌∷◌, [], IfOk, IfErr}
 use Rattle.dc_affine.specs.declared.atom.Atom.{Atom}
-use Rattle.dc_affine.specs.Atoms.{IsAtom, AllAtoms}
+use Rattle.dc_affine.specs.Atoms.{IsAtom}
 use Rattle.dc_entail.specs.declared.answer.Place.TheVariants as place
 use Rattle.dc_entail.specs.Asked.{ask}
 use Rattle.dc_points.specs.Stated.{empty_problem}
@@ -15,7 +16,7 @@ pub atoms_of-atoms-requires-clause-inside : goal.atoms_of-atoms-requires-clause-
 atoms_of-atoms-requires-clause-inside g c = let s = locs_some c.args.t.now c.requires.lent in omega arith
 
 pub line-requires : goal.line-requires
-line-requires g c = record { atoms = subst (AllAtoms (IsAtom c.args.t.now.system.now.vars)) (sym c.atoms_of-atoms.ensures) (exit_in c.args.t.now c.requires.lent) }
+line-requires g c = record { atoms = subst (AllByRecursion (IsAtom c.args.t.now.system.now.vars)) (sym c.atoms_of-atoms.ensures) (exit_in c.args.t.now c.requires.lent) }
 
 pub returns-clause-answer : goal.returns-clause-answer
 returns-clause-answer g c =

@@ -1,7 +1,8 @@
 use Rattle.std.proofs.Common.{SFits, ◌<◌, ◌+ℤ◌, arith, refl, length, to_z}
 use Rattle.std.specs.Int.{w128}
 use Rattle.std.proofs.lemmas.Int.{to_z-of_z, fits_signed_from_abs}
-use Rattle.dc_system.proofs.Sums.{dot_step, dot_end, fit_at, each_at, sum_small}
+use Rattle.dc_math.specs.Members.{each_is}
+use Rattle.dc_system.proofs.Sums.{dot_step, dot_end, fit_at, sum_small}
 use Rattle.dc_system.specs.Small.{IsSmall}
 use Rattle.dc_system.proofs.atoms.combination.Goals as goal
 
@@ -27,7 +28,7 @@ overflow_add-sum c =
 pub product-sum-requires : goal.product-sum-requires
 product-sum-requires c = record {
   coef = fit_at c.args.coefs.now c.loop-k.k _ c.requires.coefs (omega arith) refl;
-  value = each_at IsSmall c.args.values.now c.loop-k.k c.index-values-k.result c.requires.values (omega arith) c.index-values-k.is;
+  value = each_is IsSmall c.args.values.now c.loop-k.k c.index-values-k.result c.requires.values (omega arith) c.index-values-k.is;
 }
 
 pub returns : goal.returns
