@@ -17,7 +17,8 @@ abbrev pub RiseFrom : Lines → ℕ → ℕ → List ℕ → Type 0
 RiseFrom s i k [] = Unit {0}
 RiseFrom s i k (x ∷ xs) = IsFrom s i k x × RiseFrom s i (suc (s.place x)) xs
 
--- the list of line i: linked from its head, all nodes of the line and no others, by rising place (so each stands there once)
+-- the list of line i: linked from its head, all nodes of the line and no others, by rising place
+-- (so each stands there once)
 pub record IsListOf (s : Lines) (head : Option ℕ) (i : ℕ) (xs : List ℕ) : Type 0 where
   pub chain : IsChain s.next head xs
   pub rise : RiseFrom s i 0 xs
@@ -28,7 +29,8 @@ abbrev pub RanksFall : List Node → ℕ → List ℕ → Type 0
 RanksFall xs n [] = Unit {0}
 RanksFall xs n (a ∷ ys) = IsFree xs a × (row_at xs a < n) × RanksFall xs (row_at xs a) ys
 
--- the free list: linked from `free`, all free nodes and no others, at falling ranks (so each stands there once)
+-- the free list: linked from `free`, all free nodes and no others, at falling ranks (so each
+-- stands there once)
 pub record IsFreeListOf (xs : List Node) (free : Option ℕ) (spare : ℕ) (ys : List ℕ) : Type 0 where
   pub chain : IsChain (right_at xs) free ys
   pub fall : RanksFall xs spare ys

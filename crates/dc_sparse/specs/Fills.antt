@@ -9,7 +9,8 @@ use Rattle.dc_start.specs.Starts.{width, start_value}
 
 -- each entry that isn't 0 is one of the starting table
 pub record IsPartOf (p : Problem) (xs : List Node) (height : ℕ) : Type 0 where
-  pub each : (i k : ℕ) → i < height → k < width p → is_zero (entry_at xs i k) ≡ false → is_zero (start_value p i k) ≡ false
+  pub each : (i k : ℕ) → i < height → k < width p → is_zero (entry_at xs i k) ≡ false
+      → is_zero (start_value p i k) ≡ false
 
 -- in the columns from `col` on, and there alone
 pub record IsFilled (p : Problem) (xs : List Node) (height col : ℕ) : Type 0 where

@@ -71,5 +71,7 @@ pub record KeepsEntries (old new : Scaled) (i : ℕ) : Type 0 where
 -- in all rows but i the entries stay, and nodes stay where they are
 pub record KeepsHeld (old new : Scaled) (i : ℕ) : Type 0 where
   pub entries : (a b : ℕ) → a ≢ i → held_at new a b ≡ held_at old a b
-  pub stays : (n a b : ℕ) → a ≢ i → StandsAt (nodes_of old.web) n a b → StandsAt (nodes_of new.web) n a b
-  pub stood : (n a b : ℕ) → a ≢ i → StandsAt (nodes_of new.web) n a b → StandsAt (nodes_of old.web) n a b
+  pub stays : (n a b : ℕ) → a ≢ i → StandsAt (nodes_of old.web) n a b
+      → StandsAt (nodes_of new.web) n a b
+  pub stood : (n a b : ℕ) → a ≢ i → StandsAt (nodes_of new.web) n a b
+      → StandsAt (nodes_of old.web) n a b

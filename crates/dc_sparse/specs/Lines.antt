@@ -1,4 +1,5 @@
--- Nodes in lines, each line linked by rising place. Rows are lines whose places are columns, and columns are lines whose places are rows.
+-- Nodes in lines, each line linked by rising place. Rows are lines whose places are columns, and
+-- columns are lines whose places are rows.
 use Rattle.std.specs.Prelude.{◌≡◌, ℕ, ◌+◌, ◌<◌, ◌≤◌, ◌==◌, cond, Bool, true, Option, Some, None}
 
 -- which nodes stand in lines, in which line and at which place, and what is linked behind each
@@ -37,7 +38,8 @@ pub record AreLinked (s : Lines) (lines : ℕ) (head : ℕ → Option ℕ) : Typ
 
 -- no two nodes at one place of a line
 abbrev pub AreApart : Lines → Type 0
-AreApart s = (a b : ℕ) → s.live a ≡ true → s.live b ≡ true → s.line a ≡ s.line b → s.place a ≡ s.place b → a ≡ b
+AreApart s = (a b : ℕ) → s.live a ≡ true → s.live b ≡ true
+    → s.line a ≡ s.line b → s.place a ≡ s.place b → a ≡ b
 
 -- what is linked behind node a, where o was, once `to` is linked behind p
 abbrev pub link_after : Option ℕ → Option ℕ → ℕ → Option ℕ → Option ℕ

@@ -81,6 +81,7 @@ pub record IsRelinkedDown (old new : List Node) (before to : Option ℕ) : Type 
   pub down : (a : ℕ) → down_at new a ≡ link_after before to a (down_at old a)
 
 -- line i begins with `to` where nothing stands before
-pub record AreReheaded (old new : List (Option ℕ)) (before : Option ℕ) (i : ℕ) (to : Option ℕ) : Type 0 where
+pub record AreReheaded (old new : List (Option ℕ)) (before : Option ℕ) (i : ℕ) (to : Option ℕ)
+    : Type 0 where
   pub long : length new ≡ length old
   pub heads : (l : ℕ) → head_at new l ≡ head_after before i to l (head_at old l)

@@ -19,7 +19,8 @@ quotients_fit e w row col = all_below w (λ k. quotient_fits (e row k) (e row co
 unfoldable pub entries_fit : (ℕ → ℕ → ℚ) → ℕ → ℕ → ℕ → ℕ → Bool
 entries_fit e w h row col =
     quotients_fit e w row col
-    && all_below h (λ i. i == row || is_zero (e i col) || all_below w (λ k. k == col || step_fits (e i col) (e row k /ℚ e row col) (e i k)))
+    && all_below h (λ i. i == row || is_zero (e i col)
+    || all_below w (λ k. k == col || step_fits (e i col) (e row k /ℚ e row col) (e i k)))
 
 -- what a pivot leaves in row i and column k
 abbrev pub pivoted_at : (ℕ → ℕ → ℚ) → ℕ → ℕ → ℕ → ℕ → ℚ

@@ -16,7 +16,8 @@ IsTop_prop : (xs : List Node) (n : ℕ) (o : Option ℕ) → IsProp (IsTop xs n 
 IsTop_prop xs n None = hlevel props
 IsTop_prop xs n (Some f) = hlevel props
 
-pub IsWoven_prop : (xs : List Node) (row_heads col_heads : List (Option ℕ)) (free : Option ℕ) (spare : ℕ) → IsProp (IsWoven xs row_heads col_heads free spare)
+pub IsWoven_prop : (xs : List Node) (row_heads col_heads : List (Option ℕ)) (free : Option ℕ)
+    (spare : ℕ) → IsProp (IsWoven xs row_heads col_heads free spare)
 IsWoven_prop xs row_heads col_heads free spare = hlevel (IsFirst_prop, IsTop_prop, props)
 
 IsScaled_prop : (o : Option Frac) (row : ℕ → ℚ) → IsProp (IsScaled o row)

@@ -12,7 +12,8 @@ use Rattle.dc_sparse.specs.Entries.{entry_at, StandsAt}
 
 -- what must fit in the columns 0 to n - 1 but col, where factor times row `pivot` is taken from row i
 unfoldable pub reductions_fit : List Node → ℕ → ℕ → ℕ → ℚ → ℕ → Bool
-reductions_fit xs i pivot col factor n = all_below n (λ k. k == col || step_fits factor (entry_at xs pivot k) (entry_at xs i k))
+reductions_fit xs i pivot col factor n =
+    all_below n (λ k. k == col || step_fits factor (entry_at xs pivot k) (entry_at xs i k))
 
 -- what the entry y in column k becomes, where the pivot's row has x there
 abbrev pub reduced_entry : ℕ → ℕ → ℚ → ℚ → ℚ → ℚ
@@ -23,11 +24,13 @@ abbrev pub entry_after : List Node → ℕ → ℕ → ℕ → ℚ → ℕ → �
 entry_after xs i pivot col factor k = reduced_entry k col factor (entry_at xs pivot k) (entry_at xs i k)
 
 abbrev pub AreReduced : List Node → List Node → ℕ → ℕ → ℕ → ℚ → ℕ → Type 0
-AreReduced old new i pivot col factor n = (k : ℕ) → k < n → entry_at new i k ≡ entry_after old i pivot col factor k
+AreReduced old new i pivot col factor n =
+    (k : ℕ) → k < n → entry_at new i k ≡ entry_after old i pivot col factor k
 
 -- in how many of the columns 0 to n - 1 row `pivot` has an entry and row i has none
 unfoldable pub row_gaps : List Node → ℕ → ℕ → ℕ → ℕ
-row_gaps xs i pivot n = count_below n (λ k. is_zero (entry_at xs i k) && not (is_zero (entry_at xs pivot k)))
+row_gaps xs i pivot n =
+    count_below n (λ k. is_zero (entry_at xs i k) && not (is_zero (entry_at xs pivot k)))
 
 -- in all rows but i the entries and their nodes stay
 pub record KeepsRows (old new : List Node) (i : ℕ) : Type 0 where
@@ -65,7 +68,8 @@ abbrev pub reduced_at : (ℕ → ℕ → ℚ) → ℕ → ℕ → ℕ → ℕ �
 reduced_at e pivot col i k = cond (i == pivot || is_zero (e i col)) (e i k) (stepped_at e pivot col i k)
 
 abbrev pub RowsAreReduced : (ℕ → ℕ → ℚ) → (ℕ → ℕ → ℚ) → ℕ → ℕ → ℕ → ℕ → Type 0
-RowsAreReduced old new w pivot col n = (i : ℕ) → i < n → (k : ℕ) → k < w → new i k ≡ reduced_at old pivot col i k
+RowsAreReduced old new w pivot col n =
+    (i : ℕ) → i < n → (k : ℕ) → k < w → new i k ≡ reduced_at old pivot col i k
 
 -- in how many of the columns below w row `pivot` has an entry and row i has none
 abbrev pub gaps_in_row : (ℕ → ℕ → ℚ) → ℕ → ℕ → ℕ → ℕ
@@ -73,11 +77,15 @@ gaps_in_row e i pivot w = count_below w (λ k. is_zero (e i k) && not (is_zero (
 
 -- the same over rows 0 to n - 1 that have an entry in column col
 abbrev pub gaps_in_rows : (ℕ → ℕ → ℚ) → ℕ → ℕ → ℕ → ℕ → ℕ
-gaps_in_rows e w pivot col n = count_places n w (λ i k. is_zero (e i k) && not (is_zero (e i col)) && not (is_zero (e pivot k)))
+gaps_in_rows e w pivot col n =
+    count_places n w (λ i k. is_zero (e i k) && not (is_zero (e i col)) && not (is_zero (e pivot k)))
 
--- where rows 0 to n - 1 have an entry in column col, the columns below w in which row `pivot` has one and they have none
+-- where rows 0 to n - 1 have an entry in column col, the columns below w in which row `pivot` has
+-- one and they have none
 unfoldable pub rows_gaps : List Node → ℕ → ℕ → ℕ → ℕ → ℕ
-rows_gaps xs w pivot col n = count_places n w (λ i k. is_zero (entry_at xs i k) && not (is_zero (entry_at xs i col)) && not (is_zero (entry_at xs pivot k)))
+rows_gaps xs w pivot col n =
+    count_places n w (λ i k. is_zero (entry_at xs i k)
+    && not (is_zero (entry_at xs i col)) && not (is_zero (entry_at xs pivot k)))
 
 -- in how many of the columns below w a row has an entry
 unfoldable pub entries_in : (ℕ → ℚ) → ℕ → ℕ
@@ -90,4 +98,5 @@ NoneNegative xs i n = (k : ℕ) → k < n → is_negative (entry_at xs i k) ≡ 
 
 abbrev pub IsFirstNegative : List Node → ℕ → ℕ → Option ℕ → Type 0
 IsFirstNegative xs i limit None = NoneNegative xs i limit
-IsFirstNegative xs i limit (Some k) = (k < limit) × (is_negative (entry_at xs i k) ≡ true) × NoneNegative xs i k
+IsFirstNegative xs i limit (Some k) =
+    (k < limit) × (is_negative (entry_at xs i k) ≡ true) × NoneNegative xs i k

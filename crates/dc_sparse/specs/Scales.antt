@@ -58,4 +58,5 @@ AreParted row by = (k : ℕ) → IsPart (row k) by
 
 -- in each column below n in which row `pivot` had an entry, row i has a whole number below 2^41
 abbrev pub AreSmall : List Node → List Node → ℕ → ℕ → ℕ → Type 0
-AreSmall old new i pivot n = (k : ℕ) → k < n → is_zero (entry_at old pivot k) ≡ false → IsWhole 41 (entry_at new i k)
+AreSmall old new i pivot n =
+    (k : ℕ) → k < n → is_zero (entry_at old pivot k) ≡ false → IsWhole 41 (entry_at new i k)

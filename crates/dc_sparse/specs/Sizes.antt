@@ -14,11 +14,13 @@ held_count xs h w = count_places h w (λ i k. not (is_zero (entry_at xs i k)))
 abbrev pub live_count : List Node → ℕ
 live_count xs = length xs - free_count xs
 
--- an arena that had n nodes has grown only as far as its linked ones need: `long` nodes, of which `spare` are free
+-- an arena that had n nodes has grown only as far as its linked ones need: `long` nodes, of which
+-- `spare` are free
 abbrev pub HasGrown : ℕ → ℕ → ℕ → Type 0
 HasGrown n long spare = long ≡ max n (long - spare)
 
--- an arena that had `old` nodes has `new` ones: it keeps those that it had, and has at most `need` where it grew
+-- an arena that had `old` nodes has `new` ones: it keeps those that it had, and has at most `need`
+-- where it grew
 pub record GrowsFor (old new need : ℕ) : Type 0 where
   pub kept : old ≤ new
   pub most : new ≤ max old need

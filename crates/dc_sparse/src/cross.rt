@@ -12,10 +12,11 @@ use dc_lp::{PastPivot, PastQuotient, Problem, Tableau};
 use dc_start::start_basis;
 use std::alloc::{AllocError, Global};
 
-/// A tableau of linked nodes, one for each entry that isn't 0. The nodes stand in an arena: a pivot passes along the rows that have
-/// an entry in its column, frees the nodes of entries that become 0 and takes free ones for those that come, and takes no memory.
-/// A row holds whole numbers over one denominator as long as all of them stay below 2^41, and else fractions.
-/// It has room for 2^32 - 1 nodes, rows and columns: past that it answers want of memory.
+/// A tableau of linked nodes, one for each entry that isn't 0. The nodes stand in an arena: a pivot
+/// passes along the rows that have an entry in its column, frees the nodes of entries that become 0
+/// and takes free ones for those that come, and takes no memory. A row holds whole numbers over one
+/// denominator as long as all of them stay below 2^41, and else fractions. It has room for 2^32 - 1
+/// nodes, rows and columns: past that it answers want of memory.
 #[derive(Drop)]
 pub struct Cross {
     alloc: Global,
@@ -25,8 +26,10 @@ pub struct Cross {
     columns: usize,
     basis: Vec<usize>,
     held: Scaled,
-    ghost shape: { loaded ≡ true → IsShaped columns (vec_len basis) (length held.web.row_heads.items) (length held.web.col_heads.items) },
-    ghost room: { (r j : ℕ) → ready ≡ Some (r, j) → gaps (table_of columns basis.items held) r j ≤ held.web.spare },
+    ghost shape: { loaded ≡ true → IsShaped columns (vec_len basis)
+        (length held.web.row_heads.items) (length held.web.col_heads.items) },
+    ghost room: { (r j : ℕ) → ready ≡ Some (r, j)
+        → gaps (table_of columns basis.items held) r j ≤ held.web.spare },
 }
 
 impl Cross {
@@ -59,12 +62,14 @@ impl Cross {
     /// How many nodes are linked: one for each entry that isn't 0.
     pub fn live(&self) -> usize
         ensures nodes { result ≡ live_of self.now }
-        ensures entries { (cross_meaning self.now).loaded ≡ true → result ≡ entry_count (cross_meaning self.now).table }
+        ensures entries { (cross_meaning self.now).loaded ≡ true
+            → result ≡ entry_count (cross_meaning self.now).table }
     {
         self.held.web.live()
     }
 
-    /// Makes at least `count` nodes free, in an arena that grows by those that are missing. After a refusal all is as before.
+    /// Makes at least `count` nodes free, in an arena that grows by those that are missing. After a
+    /// refusal all is as before.
     pub fn reserve(&mut self, count: usize) -> Result<(), AllocError>
         ensures meaning { cross_meaning self.new ≡ cross_meaning self.old }
         ensures live { live_of self.new ≡ live_of self.old }
@@ -84,8 +89,8 @@ impl Tableau for Cross {
 
     ghost meaning = { cross_meaning };
 
-    /// The nodes that were there are taken again; the arena grows only where they are fewer than the starting table's nonzero
-    /// entries, after a refusal too.
+    /// The nodes that were there are taken again; the arena grows only where they are fewer than
+    /// the starting table's nonzero entries, after a refusal too.
     fn load(&mut self, p: &Problem) -> Result<(), AllocError>
         requires { IsWellFormed p.now }
         ensures ok { OnOk result (cross_meaning self.new ≡ resting (start p.now)) }
@@ -122,16 +127,18 @@ impl Tableau for Cross {
         self.held.web.ratio_row(self.columns, &self.basis, col)
     }
 
-    /// Makes as many nodes free as the pivot fills places, in an arena that grows by those that are missing. The places are counted
-    /// only where a bound by the lengths of the pivot's row and column passes the free nodes.
+    /// Makes as many nodes free as the pivot fills places, in an arena that grows by those that are
+    /// missing. The places are counted only where a bound by the lengths of the pivot's row and
+    /// column passes the free nodes.
     fn room(&mut self, row: usize, col: usize) -> Result<(), AllocError>
         requires usable { IsUsable (cross_meaning self.old) }
         requires place { IsPivotPlace (cross_meaning self.old).table row col }
-        ensures ok { OnOk result (cross_meaning self.new ≡ ready_at (cross_meaning self.old).table row col) }
+        ensures ok { OnOk result
+            (cross_meaning self.new ≡ ready_at (cross_meaning self.old).table row col) }
         ensures err { OnErr result (cross_meaning self.new ≡ cross_meaning self.old) }
-
         ensures live { live_of self.new ≡ live_of self.old }
-        ensures spare { OnOk result (spare_of self.new ≡ max (spare_of self.old) (fill (cross_meaning self.old).table row col)) }
+        ensures spare { OnOk result (spare_of self.new
+            ≡ max (spare_of self.old) (fill (cross_meaning self.old).table row col)) }
         ensures kept { OnErr result (spare_of self.new ≡ spare_of self.old) }
     {
         let Some(count) = self.held.web.need(row, col) else {
@@ -146,7 +153,8 @@ impl Tableau for Cross {
     fn pivot(&mut self, row: usize, col: usize) -> Result<(), PastPivot>
         requires ready { cross_meaning self.old ≡ ready_at (cross_meaning self.old).table row col }
         requires place { IsPivotPlace (cross_meaning self.old).table row col }
-        ensures ok { OnOk result (cross_meaning self.new ≡ resting (pivoted (cross_meaning self.old).table row col)) }
+        ensures ok { OnOk result (cross_meaning self.new
+            ≡ resting (pivoted (cross_meaning self.old).table row col)) }
         ensures err { OnErr result ((cross_meaning self.new).broken ≡ true) }
         ensures fits { IsOk result ↔ (pivot_fits (cross_meaning self.old).table row col ≡ true) }
         ensures arena { arena_of self.new ≡ arena_of self.old }

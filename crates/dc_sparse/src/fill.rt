@@ -15,7 +15,8 @@ use dc_start::first_value;
 use std::alloc::AllocError;
 
 impl Web {
-    /// Holds the starting table of a problem, from its last column to its first. After a refusal the table is left half done.
+    /// Holds the starting table of a problem, from its last column to its first. After a refusal the
+    /// table is left half done.
     pub(crate) fn fill(&mut self, p: &Problem) -> Result<(), AllocError>
         requires well_formed { IsWellFormed p.now }
         requires blank { IsBlank (nodes_of self.old) }
@@ -23,7 +24,8 @@ impl Web {
         requires width { width_of self.old ≡ width p.now }
         ensures ok { OnOk result (IsFilled p.now (nodes_of self.new) (p.now.rows + 2) 0) }
         ensures part { IsPartOf p.now (nodes_of self.new) (p.now.rows + 2) }
-        ensures arena { (n : ℕ) → HasGrown n (node_count self.old) self.old.spare → HasGrown n (node_count self.new) self.new.spare }
+        ensures arena { (n : ℕ) → HasGrown n (node_count self.old) self.old.spare
+            → HasGrown n (node_count self.new) self.new.spare }
         ensures height { height_of self.new ≡ height_of self.old }
         ensures width { width_of self.new ≡ width_of self.old }
     {
@@ -44,7 +46,8 @@ impl Web {
         requires width { width_of self.old ≡ width p.now }
         ensures ok { OnOk result (IsFilled p.now (nodes_of self.new) (p.now.rows + 2) col) }
         ensures part { IsPartOf p.now (nodes_of self.new) (p.now.rows + 2) }
-        ensures arena { (n : ℕ) → HasGrown n (node_count self.old) self.old.spare → HasGrown n (node_count self.new) self.new.spare }
+        ensures arena { (n : ℕ) → HasGrown n (node_count self.old) self.old.spare
+            → HasGrown n (node_count self.new) self.new.spare }
         ensures height { height_of self.new ≡ height_of self.old }
         ensures width { width_of self.new ≡ width_of self.old }
     {
@@ -66,7 +69,8 @@ impl Web {
         requires width { width_of self.old ≡ width p.now }
         ensures ok { OnOk result (IsFilled p.now (nodes_of self.new) (p.now.rows + 2) col) }
         ensures part { IsPartOf p.now (nodes_of self.new) (p.now.rows + 2) }
-        ensures arena { (n : ℕ) → HasGrown n (node_count self.old) self.old.spare → HasGrown n (node_count self.new) self.new.spare }
+        ensures arena { (n : ℕ) → HasGrown n (node_count self.old) self.old.spare
+            → HasGrown n (node_count self.new) self.new.spare }
         ensures height { height_of self.new ≡ height_of self.old }
         ensures width { width_of self.new ≡ width_of self.old }
     {
@@ -90,7 +94,8 @@ impl Web {
         requires width { width_of self.old ≡ width p.now }
         ensures ok { OnOk result (IsFilled p.now (nodes_of self.new) (p.now.rows + 2) col) }
         ensures part { IsPartOf p.now (nodes_of self.new) (p.now.rows + 2) }
-        ensures arena { (n : ℕ) → HasGrown n (node_count self.old) self.old.spare → HasGrown n (node_count self.new) self.new.spare }
+        ensures arena { (n : ℕ) → HasGrown n (node_count self.old) self.old.spare
+            → HasGrown n (node_count self.new) self.new.spare }
         ensures height { height_of self.new ≡ height_of self.old }
         ensures width { width_of self.new ≡ width_of self.old }
     {
@@ -108,7 +113,8 @@ impl Web {
         requires width { width_of self.old ≡ width p.now }
         ensures ok { OnOk result (IsFilled p.now (nodes_of self.new) (p.now.rows + 2) col) }
         ensures part { IsPartOf p.now (nodes_of self.new) (p.now.rows + 2) }
-        ensures arena { (n : ℕ) → HasGrown n (node_count self.old) self.old.spare → HasGrown n (node_count self.new) self.new.spare }
+        ensures arena { (n : ℕ) → HasGrown n (node_count self.old) self.old.spare
+            → HasGrown n (node_count self.new) self.new.spare }
         ensures height { height_of self.new ≡ height_of self.old }
         ensures width { width_of self.new ≡ width_of self.old }
     {
@@ -120,7 +126,8 @@ impl Web {
         Ok(())
     }
 
-    /// Holds an entry of the starting table, where those below it in its column and those in the columns behind are held.
+    /// Holds an entry of the starting table, where those below it in its column and those in the
+    /// columns behind are held.
     fn fill_place(&mut self, p: &Problem, row: usize, col: usize) -> Result<(), AllocError>
         requires well_formed { IsWellFormed p.now }
         requires row { row < p.now.rows + 2 }
@@ -130,7 +137,8 @@ impl Web {
         requires width { width_of self.old ≡ width p.now }
         ensures ok { OnOk result (IsFilling p.now (nodes_of self.new) (p.now.rows + 2) row col) }
         ensures part { IsPartOf p.now (nodes_of self.new) (p.now.rows + 2) }
-        ensures arena { (n : ℕ) → HasGrown n (node_count self.old) self.old.spare → HasGrown n (node_count self.new) self.new.spare }
+        ensures arena { (n : ℕ) → HasGrown n (node_count self.old) self.old.spare
+            → HasGrown n (node_count self.new) self.new.spare }
         ensures height { height_of self.new ≡ height_of self.old }
         ensures width { width_of self.new ≡ width_of self.old }
     {

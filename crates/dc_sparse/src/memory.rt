@@ -12,8 +12,8 @@ use dc_frac::Frac;
 use std::alloc::{AllocError, Global};
 
 impl Web {
-    /// Makes at least `count` nodes free, in an arena that grows by those that are missing. Past 2^32 - 1 nodes it refuses. After a
-    /// refusal all is as before.
+    /// Makes at least `count` nodes free, in an arena that grows by those that are missing. Past
+    /// 2^32 - 1 nodes it refuses. After a refusal all is as before.
     pub(crate) fn reserve(&mut self, count: usize) -> Result<(), AllocError>
         ensures ok { OnOk result (self.new.spare ≡ max self.old.spare count) }
         ensures err { OnErr result (nodes_of self.new ≡ nodes_of self.old) }
@@ -58,8 +58,8 @@ impl Web {
         self.spare += 1;
     }
 
-    /// Frees all nodes, for a table of so many rows and columns. Past 2^32 - 1 of either it refuses. After a refusal nothing has
-    /// changed.
+    /// Frees all nodes, for a table of so many rows and columns. Past 2^32 - 1 of either it
+    /// refuses. After a refusal nothing has changed.
     pub(crate) fn reset(
         &mut self,
         alloc: Global,

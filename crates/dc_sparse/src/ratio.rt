@@ -19,8 +19,9 @@ use dc_lp::PastQuotient;
 use dc_start::{Candidate, better};
 
 impl Web {
-    /// Of the equations' rows with a positive entry in a column, the one whose quotient of right side by entry is least, ties by the
-    /// least basic column; `None` exactly where no entry is positive. So in each table with these quotients.
+    /// Of the equations' rows with a positive entry in a column, the one whose quotient of right
+    /// side by entry is least, ties by the least basic column; `None` exactly where no entry is
+    /// positive. So in each table with these quotients.
     ///
     /// # Errors
     /// `PastQuotient` exactly where one of the quotients doesn't fit.
@@ -32,7 +33,8 @@ impl Web {
     ) -> Result<Option<usize>, PastQuotient>
         requires shape { IsShaped columns (length basis.now) (height_of self.now) (width_of self.now) }
         requires col { col < width_of self.now }
-        ensures { (t : Table ℚ) → HasRatios t columns basis.now (nodes_of self.now) col → result ≡ ratio_answer t col }
+        ensures { (t : Table ℚ) → HasRatios t columns basis.now (nodes_of self.now) col
+            → result ≡ ratio_answer t col }
     {
         let right = columns + basis.len();
         let mut best: Option<Candidate> = None;

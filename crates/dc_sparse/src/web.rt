@@ -1,4 +1,5 @@
-//! Nodes of an arena, linked in rows and in columns. Those that hold nothing stand in a list of their own.
+//! Nodes of an arena, linked in rows and in columns. Those that hold nothing stand in a list of
+//! their own.
 #![tactic(auto)]
 
 ghost use Rattle.std.specs.Prelude.{◌≡◌, ℕ, ◌<◌, ◌≤◌, length, [], None, IsTrue};
@@ -16,9 +17,10 @@ use std::alloc::Global;
 /// How many nodes, rows and columns there may be: 2^32 - 1.
 pub(crate) const MOST: usize = 0xFFFF_FFFF;
 
-/// A node at a row and a column, with a value and the nodes that follow it in its row and in its column.
-/// Where it is free its value is 0, `row` is how many free nodes stand behind it in the list of these, and `right` is the next of them.
-/// A node that follows is kept as its index and 1 more, and none as 0.
+/// A node at a row and a column, with a value and the nodes that follow it in its row and in its
+/// column. Where it is free its value is 0, `row` is how many free nodes stand behind it in the
+/// list of these, and `right` is the next of them. A node that follows is kept as its index and 1
+/// more, and none as 0.
 #[derive(Clone, Copy, Drop)]
 pub(crate) struct Node {
     row: u32,
@@ -134,9 +136,9 @@ fn unpacked(number: u32) -> Option<usize>
     }
 }
 
-/// Nodes, and which of them begin the rows, the columns and the list of free nodes. `spare` counts the free ones.
-/// Each column has a stop, from which a node is sought if it stands before it there. Of nodes, rows and columns there are few enough
-/// for numbers of 32 bits.
+/// Nodes, and which of them begin the rows, the columns and the list of free nodes. `spare` counts
+/// the free ones. Each column has a stop, from which a node is sought if it stands before it there.
+/// Of nodes, rows and columns there are few enough for numbers of 32 bits.
 #[derive(Drop)]
 pub(crate) struct Web {
     pub nodes: Vec<Node>,
@@ -147,7 +149,9 @@ pub(crate) struct Web {
     pub spare: usize,
     pub ghost stopped: { length stops.items ≡ length col_heads.items },
     pub ghost small: { IsSmall (length nodes.items) (length row_heads.items) (length col_heads.items) },
-    pub ghost woven: { IsWoven nodes.items row_heads.items col_heads.items free spare } by { IsWoven_prop nodes.items row_heads.items col_heads.items free spare },
+    pub ghost woven: { IsWoven nodes.items row_heads.items col_heads.items
+        free spare } by { IsWoven_prop nodes.items row_heads.items col_heads.items
+            free spare },
 }
 
 impl Web {
@@ -180,7 +184,8 @@ impl Web {
     /// How many nodes are linked.
     pub(crate) fn live(&self) -> usize
         ensures nodes { result ≡ live_count (nodes_of self.now) }
-        ensures entries { result ≡ held_count (nodes_of self.now) (height_of self.now) (width_of self.now) }
+        ensures entries { result
+            ≡ held_count (nodes_of self.now) (height_of self.now) (width_of self.now) }
     {
         self.nodes.len() - self.spare
     }

@@ -24,7 +24,8 @@ impl Web {
         requires vacant { IsVacant (nodes_of self.old) row col }
         ensures ok { OnOk result (IsPut (nodes_of self.old) (nodes_of self.new) row col (value entry)) }
         ensures err { OnErr result (nodes_of self.new ≡ nodes_of self.old) }
-        ensures arena { (n : ℕ) → HasGrown n (node_count self.old) self.old.spare → HasGrown n (node_count self.new) self.new.spare }
+        ensures arena { (n : ℕ) → HasGrown n (node_count self.old) self.old.spare
+            → HasGrown n (node_count self.new) self.new.spare }
         ensures height { height_of self.new ≡ height_of self.old }
         ensures width { width_of self.new ≡ width_of self.old }
     {
@@ -35,7 +36,8 @@ impl Web {
         Ok(())
     }
 
-    /// Makes `entry` the entry at a place, whose node is `found` and which stands behind `left` in its row. The column's stop moves there.
+    /// Makes `entry` the entry at a place, whose node is `found` and which stands behind `left` in
+    /// its row. The column's stop moves there.
     pub(crate) fn put(
         &mut self,
         row: usize,
@@ -102,7 +104,8 @@ impl Web {
         }
     }
 
-    /// Takes a free node to hold a value at a place without a node, behind `left` in its row and behind `above` in its column.
+    /// Takes a free node to hold a value at a place without a node, behind `left` in its row and
+    /// behind `above` in its column.
     pub(crate) fn insert(
         &mut self,
         row: usize,
@@ -140,8 +143,10 @@ impl Web {
     /// Frees a node, which stands behind `left` in its row and behind `above` in its column.
     pub(crate) fn remove(&mut self, node: usize, left: Option<usize>, above: Option<usize>)
         requires node { is_live (nodes_of self.old) node ≡ true }
-        requires left { IsLast (rows_of self.old) (row_at (nodes_of self.old) node) (col_at (nodes_of self.old) node) left }
-        requires above { IsLast (columns_of self.old) (col_at (nodes_of self.old) node) (row_at (nodes_of self.old) node) above }
+        requires left { IsLast (rows_of self.old) (row_at (nodes_of self.old) node)
+            (col_at (nodes_of self.old) node) left }
+        requires above { IsLast (columns_of self.old) (col_at (nodes_of self.old) node)
+            (row_at (nodes_of self.old) node) above }
         ensures cleared { IsCleared (nodes_of self.old) (nodes_of self.new) node }
         ensures spare { self.new.spare ≡ self.old.spare + 1 }
         ensures arena { node_count self.new ≡ node_count self.old }
@@ -174,7 +179,8 @@ impl Web {
         requires nonzero { is_zero (value entry) ≡ false }
         ensures entry { (i k : ℕ) → StandsAt (nodes_of self.old) node i k
             → IsPut (nodes_of self.old) (nodes_of self.new) i k (value entry) }
-        ensures stays { (n i k : ℕ) → StandsAt (nodes_of self.old) n i k → StandsAt (nodes_of self.new) n i k }
+        ensures stays { (n i k : ℕ) → StandsAt (nodes_of self.old) n i k
+            → StandsAt (nodes_of self.new) n i k }
         ensures spare { self.new.spare ≡ self.old.spare }
         ensures arena { node_count self.new ≡ node_count self.old }
         ensures height { height_of self.new ≡ height_of self.old }
