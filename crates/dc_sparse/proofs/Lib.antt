@@ -14,6 +14,7 @@ pub mod Grows
 pub mod RowWalks
 pub mod Quotients
 pub mod Wholes
+pub mod Multiples
 pub mod Scaling
 mod Smalls
 pub mod HeldEntries

@@ -15,7 +15,6 @@ use Rattle.dc_sparse.specs.Webs.{IsVacant}
 use Rattle.dc_sparse.specs.Entries.{entry_at, StandsAt, IsPut, takes}
 use Rattle.dc_start.specs.Changes.{step_fits}
 use Rattle.dc_sparse.specs.Rows.{reductions_fit, entry_after, reduced_entry, row_gaps, entries_in, KeepsRows, NoneNegative}
-use Rattle.dc_sparse.specs.Scales.{IsWhole, AreSmall}
 use Rattle.dc_sparse.proofs.Links.{next_first}
 use Rattle.dc_sparse.proofs.Entries.{entry-vacant, entry-node, item-live}
 use Rattle.dc_sparse.proofs.PlaceCounts.{all_below-on, count_below-on, count_below-none}
@@ -140,17 +139,6 @@ stop_put xs ys i k v (Some q) p l =
     let c = s.col in
     record { live = s.live; line = s.row; place = omega arith }
 
--- up to the next node of row `pivot` nothing is written
-pub small_on : (old new : List Node) (i pivot done m : ℕ) (o : Option ℕ) → pivot ≢ i → KeepsRows old new i → IsFirst (by_rows new) pivot done o → AreSmall old new i pivot done
-    → ((c : ℕ) → o ≡ Some c → m ≤ col_at new c) → AreSmall old new i pivot m
-small_on old new i pivot done m o apart rows f small le k lt nz = elim (cases_Bool (nat_lt k done)) [
-  | inl e ↦ small k (ltb-true k done e) nz
-  | inr e ↦
-      (let z : is_zero (entry_at new pivot k) ≡ true = gap_before new pivot done o f k (ltb-false k done e) (λ c q. (let l = le c q in omega arith)) in
-      let s : is_zero (entry_at new pivot k) ≡ is_zero (entry_at old pivot k) = ap is_zero (rows.entries pivot k apart) in
-      absurd (let r : ⊥ = cc in r))
-]
-
 module _ (old new : List Node) (i pivot col : ℕ) (factor : ℚ) (was now done : ℕ) (node : ℕ) (left : Option ℕ) (h : IsAlong old new i pivot col factor was now done (Some node) left)
     (apart : pivot ≢ i) (pivot_entry : is_zero (entry_at old pivot col) ≡ false) where
   -- up to the next node of row `pivot` nothing has to be done
@@ -160,15 +148,6 @@ module _ (old new : List Node) (i pivot col : ℕ) (factor : ℚ) (was now done 
 
   pub along_stands : StandsAt new node pivot (col_at new node)
   along_stands = record { live = h.next.0.live; row = h.next.0.line; col = refl }
-
-  -- what is written stays small with one more
-  pub along_small : (newer : List Node) (v : ℚ) → IsPut new newer i (col_at new node) v → IsWhole 41 v → AreSmall old new i pivot done → AreSmall old newer i pivot (col_at new node + 1)
-  along_small newer v p here small k lt nz = elim (cases_Bool (k == col_at new node)) [
-    | inl q ↦ subst (IsWhole 41) (sym (ap (entry_at newer i) (eqb-true k (col_at new node) q) ∙ p.here)) here
-    | inr q ↦
-        (let ne = eqb-false k (col_at new node) q in
-        subst (IsWhole 41) (sym (p.others i k (λ _ z. ne z))) (small_on old new i pivot done (col_at new node) (Some node) apart h.row.rows h.next small (λ m e. (let z : col_at new node ≡ col_at new m = cc in omega arith)) k (omega arith) nz))
-  ]
 
   module _ (one : AreApart (by_rows new)) (inside : node < length new) where
     -- the entry of row `pivot` there is what it was
@@ -208,9 +187,6 @@ pub along_end : (old new : List Node) (i pivot col : ℕ) (factor : ℚ) (was no
 along_end old new i pivot col factor was now done w left h apart pivot_entry le =
     reducing_skip old new i pivot col factor was now done h.row pivot_entry w le
     (λ k l lt. ap is_zero (sym (h.row.rows.entries pivot k apart)) ∙ gap_before new pivot done None h.next k l (λ m e. absurd (let r : ⊥ = cc in r)))
-
-pub small_end : (old new : List Node) (i pivot col : ℕ) (factor : ℚ) (was now done w : ℕ) (left : Option ℕ) → IsAlong old new i pivot col factor was now done None left → pivot ≢ i → AreSmall old new i pivot done → AreSmall old new i pivot w
-small_end old new i pivot col factor was now done w left h apart small = small_on old new i pivot done w None apart h.row.rows h.next small (λ c e. absurd (let r : ⊥ = cc in r))
 
 -- in another column than the pivot's
 pub reduced_step : (o : Option Frac) (k col : ℕ) (factor x y z : ℚ) → k ≢ col → y ≡ z → IsChecked o (step_fits factor x y) (y -ℚ factor *ℚ x) → IsChecked o (k == col || step_fits factor x z) (reduced_entry k col factor x z)
