@@ -15,6 +15,7 @@ pub mod RowWalks
 pub mod Quotients
 pub mod Wholes
 pub mod Multiples
+pub mod Combines
 pub mod Scaling
 mod Smalls
 pub mod HeldEntries
