@@ -116,29 +116,11 @@ whole_value n f e h = record {
   small = subst (λ (p : Fraction). unsigned_abs p.num < 2 ^ n) (sym (lowest-value f)) h;
 }
 
-pub whole-*ℚ : (m n : ℕ) (x y : ℚ) → IsWhole m x → IsWhole n y → IsWhole (m + n) (x *ℚ y)
-whole-*ℚ m n x y h k =
-    subst (IsWhole (m + n)) (of_ℤ-*ℤ (lowest x).num (lowest y).num ∙ ap₂ ◌*ℚ◌ (whole_is m x h) (whole_is n y k))
-    (whole_of (m + n) ((lowest x).num *ℤ (lowest y).num) (product_below m n (lowest x).num (lowest y).num h.small k.small))
-
 -- ---- what fits of whole numbers
 
 step_true : (a b c : Bool) → b ≡ true → c ≡ true → (a || b && c) ≡ true
 step_true true b c e f = refl
 step_true false b c e f = rw (e, f) refl
-
--- the size of a whole number's negation
-neg_below : (n : ℕ) (z : ℤ) → unsigned_abs z < n → unsigned_abs (neg_ℤ z) < n
-neg_below n z h = omega (arith, ints)
-
-difference_whole : (z w : ℤ) → unsigned_abs z < 2 ^ 82 → unsigned_abs w < 2 ^ 82 → difference_fits (of_ℤ z) (of_ℤ w) ≡ true
-difference_whole z w h k = ap (sum_fits (of_ℤ z)) (sym (of_ℤ-neg_ℤ w)) ∙ whole_sums_fit z (neg_ℤ w) (omega arith) (let l = neg_below (2 ^ 82) w k in omega arith)
-
-pub whole_steps : (f x y : ℚ) → IsWhole 41 f → IsWhole 41 x → IsWhole 82 y → step_fits f x y ≡ true
-whole_steps f x y h k l =
-    step_true (is_zero x) (product_fits f x) (difference_fits y (f *ℚ x)) (products_fit 41 41 f x (whole_small 41 f (omega arith) h) (whole_small 41 x (omega arith) k) (omega arith))
-    (let p : IsWhole 82 (f *ℚ x) = whole-*ℚ 41 41 f x h k in
-    subst (λ v. difference_fits v (f *ℚ x) ≡ true) (whole_is 82 y l) (subst (λ v. difference_fits (of_ℤ (lowest y).num) v ≡ true) (whole_is 82 (f *ℚ x) p) (difference_whole (lowest y).num (lowest (f *ℚ x)).num l.small p.small)))
 
 -- ---- numbers over a denominator
 
