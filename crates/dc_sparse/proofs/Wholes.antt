@@ -1,23 +1,23 @@
 -- Small whole numbers, what fits of them, and quotients by numbers that aren't 0.
-use Rattle.std.specs.Prelude.{◌≡◌, ℕ, ◌+◌, ◌<◌, ◌≤◌, ◌^◌, ℤ, pos, neg_ℤ, ◌*ℤ◌, ◌≤ℤ◌, ◌<ℤ◌, unsigned_abs, Bool, true, false, ◌&&◌, ◌||◌, [], ◌∷◌}
+use Rattle.std.specs.Prelude.{◌≡◌, ℕ, ◌<◌, ◌≤◌, ◌^◌, ℤ, pos, ◌*ℤ◌, ◌≤ℤ◌, ◌<ℤ◌, unsigned_abs, Bool, true, false, ◌&&◌, ◌||◌, [], ◌∷◌}
 use Rattle.std.proofs.Common.{refl, sym, ◌∙◌, ap, ap₂, subst, arith, inl, inr}
 use Rattle.std.proofs.lemmas.Int.{ints}
 use Rattle.std.proofs.lemmas.Bool.{cases_Bool}
-use Rattle.dc_math.specs.Rational.{ℚ, Fraction, fraction_of, ratio_same, of_ℤ, of_ℤ_is, of_ℤ-*ℤ, neg_ℚ, ◌-ℚ◌, ◌*ℚ◌, ◌<ℚ◌}
+use Rattle.dc_math.specs.Rational.{ℚ, Fraction, fraction_of, ratio_same, of_ℤ, of_ℤ_is, neg_ℚ, ◌-ℚ◌, ◌*ℚ◌, ◌<ℚ◌}
 use Rattle.dc_math.specs.RationalRing.{ring, reads, read_nat, same_form, linear₁, linear₂}
 use Rattle.dc_math.specs.Inverse.{inverse, *ℚ-inverse, ◌/ℚ◌}
 use Rattle.dc_math.specs.Signs.{negated_positive}
-use Rattle.dc_math.specs.Order.{Positive, Positive_nonzero, Positive-*ℚ, inverse_positive, <ℚ_by, of_ℤ-<, of_ℤ-<_back, of_ℤ-neg_ℤ, one_nonzero}
+use Rattle.dc_math.specs.Order.{Positive, Positive_nonzero, Positive-*ℚ, inverse_positive, <ℚ_by, of_ℤ-<, of_ℤ-<_back, one_nonzero}
 use Rattle.dc_math.specs.Lowest.{lowest, ratio-lowest, lowest-of_reduced}
 use Rattle.dc_math.specs.Tests.{is_zero, is_negative, is_positive, eq_ℚ-true, eq_ℚ_true, eq_ℚ_false, lt_ℚ-true, lt_ℚ_true}
 use Rattle.dc_frac.specs.declared.Frac.{Frac}
 use Rattle.dc_frac.specs.Value.{value}
-use Rattle.dc_frac.specs.Fits.{fits, product_fits, quotient_fits, sum_fits, difference_fits, IsWithin}
+use Rattle.dc_frac.specs.Fits.{fits, product_fits, quotient_fits, difference_fits, IsWithin}
 use Rattle.dc_frac.proofs.ShortWays.{gcd_nat_one}
 use Rattle.dc_frac.proofs.Values.{same_test}
 use Rattle.dc_frac.proofs.ValueLaws.{lowest-value}
 use Rattle.dc_frac.proofs.FitLaws.{sum-fits}
-use Rattle.dc_frac.proofs.SmallSizes.{product_below, whole_within, ratio_within, quotients_fit, products_fit, steps_fit, whole_sums_fit}
+use Rattle.dc_frac.proofs.SmallSizes.{whole_within, ratio_within, quotients_fit, products_fit, steps_fit}
 use Rattle.dc_start.specs.Changes.{step_fits}
 use Rattle.dc_sparse.specs.Scales.{IsWhole, IsDen, IsPart}
 use Rattle.dc_start.proofs.Changes.{quotient-zero}

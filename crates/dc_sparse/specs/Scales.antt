@@ -1,9 +1,8 @@
 -- Rows of fractions, and rows of whole numbers over one denominator.
-use Rattle.std.specs.Prelude.{◌≡◌, ℕ, ◌<◌, ◌≤◌, ◌^◌, ℤ, pos, ◌≤ℤ◌, unsigned_abs, true, false, List, length, slice_index_or, Option, Some, None}
+use Rattle.std.specs.Prelude.{◌≡◌, ℕ, ◌<◌, ◌≤◌, ◌^◌, ℤ, pos, ◌≤ℤ◌, unsigned_abs, true, List, length, slice_index_or, Option, Some, None}
 use Rattle.dc_math.specs.Rational.{ℚ, of_ℤ}
 use Rattle.dc_math.specs.Inverse.{◌/ℚ◌}
 use Rattle.dc_math.specs.Order.{Positive}
-use Rattle.dc_math.specs.Tests.{is_zero}
 use Rattle.dc_math.specs.Lowest.{lowest}
 use Rattle.dc_frac.specs.declared.Frac.{Frac}
 use Rattle.dc_frac.specs.Value.{value}

@@ -1,4 +1,4 @@
-use Rattle.std.proofs.Common.{◌≡◌, ◌∙◌, SFits, pos, ◌*ℤ◌, ◌-ℤ◌, arith, sym, ap, refl}
+use Rattle.std.proofs.Common.{◌≡◌, ◌∙◌, SFits, pos, ◌*ℤ◌, ◌-ℤ◌, arith, sym, refl}
 use Rattle.std.proofs.lemmas.Int.{to_z-of_z}
 use mir.Syntax.{w128}
 use Rattle.dc_math.specs.Rational.{of_ℤ}

@@ -1,4 +1,4 @@
-use Rattle.std.proofs.Common.{◌≡◌, ◌∙◌, ◌+◌, ◌≤◌, ◌<◌, IsTrue, ℕ, SFits, length, arith, Some, None, sym, subst, ap, inl, inr, nat_lt, refl}
+use Rattle.std.proofs.Common.{◌≡◌, ◌∙◌, ◌+◌, ◌≤◌, IsTrue, ℕ, SFits, length, arith, Some, None, sym, subst, inl, inr, nat_lt, refl}
 use Rattle.std.proofs.lemmas.Int.{to_z-of_z}
 use Rattle.std.proofs.lemmas.Bool.{cases_Bool, ltb-true, ltb-false}
 use mir.Syntax.{w128}

@@ -1,11 +1,11 @@
-use Rattle.std.proofs.Common.{◌≡◌, ◌∙◌, SFits, false, pos, ◌*ℤ◌, arith, sym, subst, ap}
+use Rattle.std.proofs.Common.{◌≡◌, ◌∙◌, SFits, pos, ◌*ℤ◌, arith, sym, subst, ap}
 use Rattle.std.proofs.lemmas.Int.{ints, to_z-of_z}
 use mir.Syntax.{w128}
 use Rattle.dc_math.specs.Rational.{of_ℤ, of_ℤ-*ℤ, ◌*ℚ◌}
 use Rattle.dc_math.specs.Tests.{is_zero}
 use Rattle.dc_frac.specs.Value.{value}
 use Rattle.dc_sparse.specs.Nodes.{item, col_at}
-use Rattle.dc_sparse.specs.Entries.{entry_at, IsPut}
+use Rattle.dc_sparse.specs.Entries.{IsPut}
 use Rattle.dc_sparse.specs.Scales.{IsWhole}
 use Rattle.dc_sparse.proofs.Cells.{item_live, item-read}
 use Rattle.dc_sparse.proofs.Links.{col-read}

@@ -3,7 +3,6 @@ use Rattle.std.proofs.lemmas.Int.{ints}
 use mir.Syntax.{w128}
 use Rattle.dc_sparse.specs.Entries.{entry_at}
 use Rattle.dc_sparse.specs.Scales.{IsWhole}
-use Rattle.dc_sparse.proofs.HeldEntries.{same_sizes}
 use Rattle.dc_sparse.proofs.Multiples.{once, multiplied_once}
 use Rattle.dc_sparse.proofs.web.Web.multiply_rest.Goals as goal
 

@@ -1,4 +1,4 @@
-use Rattle.std.proofs.Common.{◌≡◌, IsTrue, length}
+use Rattle.std.proofs.Common.{IsTrue, length}
 use Rattle.dc_math.specs.Rational.{of_ℤ}
 use Rattle.dc_sparse.specs.Nodes.{by_rows}
 use Rattle.dc_sparse.specs.Held.{KeepsSizes}
