@@ -190,8 +190,7 @@ module _ (old new : List Node) (i n limit : ℕ) (times : ℚ) (small : Bool) (l
         | inl e ↦
             (let lt = ltb-true (col_at new node) n e in
             let l = after in
-            let same : max n (col_at new node + 1) ≡ reach new n left = omega arith in
-            (
+            let same : max n (col_at new node + 1) ≡ reach new n left = omega arith in (
               subst (λ x. IsMultiplied old newer i n x times) (sym same) (subst (λ z. IsMultiplied old z i n (reach new n left) times) (sym (done lt)) h.row),
               λ t. subst (λ x. AreProducts old i n x times) (sym same) (h.whole (before t)),
             ))
@@ -202,10 +201,9 @@ module _ (old new : List Node) (i n limit : ℕ) (times : ℚ) (small : Bool) (l
             let up : reach new n left ≤ col_at new node = omega arith in
             let p = entry le i (col_at new node) passing_stands in
             let skipped : IsMultiplied old new i n (col_at new node) times = multiplied_skip old new i n (reach new n left) times h.row (col_at new node) up gap in
-            let product : item new node *ℚ times ≡ entry_at old i (col_at new node) *ℚ times = ap (λ x. x *ℚ times) (passing_entry le) in
-            (
+            let product : item new node *ℚ times ≡ entry_at old i (col_at new node) *ℚ times = ap (λ x. x *ℚ times) (passing_entry le) in (
               subst (λ x. IsMultiplied old newer i n x times) (sym same)
-              (multiplied_put old new i n (col_at new node) times skipped newer (item new node *ℚ times) le product p (places_put new newer node i (col_at new node) (item new node *ℚ times) p stays apart passing_stands)),
+                  (multiplied_put old new i n (col_at new node) times skipped newer (item new node *ℚ times) le product p (places_put new newer node i (col_at new node) (item new node *ℚ times) p stays apart passing_stands)),
               λ t. subst (λ x. AreProducts old i n x times) (sym same) (λ k u v. elim (cases_Bool (k == col_at new node)) [
                 | inl q ↦ subst (λ x. IsWhole 41 (entry_at old i x *ℚ times)) (sym (eqb-true k (col_at new node) q)) (subst (IsWhole 41) product (here t le))
                 | inr q ↦
