@@ -14,6 +14,8 @@ pub mod RowWalks
 pub mod Quotients
 pub mod Wholes
 mod WordQuotients
+pub mod Multiples
+pub mod Combines
 pub mod Scaling
 mod Smalls
 pub mod HeldEntries

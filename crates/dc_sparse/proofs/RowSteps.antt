@@ -15,10 +15,38 @@ use Rattle.dc_sparse.specs.Webs.{IsVacant}
 use Rattle.dc_sparse.specs.Entries.{entry_at, StandsAt, IsPut, takes}
 use Rattle.dc_start.specs.Changes.{step_fits}
 use Rattle.dc_sparse.specs.Rows.{reductions_fit, entry_after, reduced_entry, row_gaps, entries_in, KeepsRows, NoneNegative}
-use Rattle.dc_sparse.specs.Scales.{IsWhole, AreSmall}
 use Rattle.dc_sparse.proofs.Links.{next_first}
 use Rattle.dc_sparse.proofs.Entries.{entry-vacant, entry-node, item-live}
 use Rattle.dc_lp.proofs.Counts.{all_below-on, count_below-on, count_below-none}
+
+-- ---- the free nodes that a row needs
+
+gap_most : (a b : Bool) → cond (a && b) 1 0 ≤ cond (a && true) 1 0
+gap_most true true = omega arith
+gap_most true false = omega arith
+gap_most false b = omega arith
+
+pub gaps_skip : (xs : List Node) (i pivot was now n m : ℕ) → n ≤ m → was ≤ now + row_gaps xs i pivot n → was ≤ now + row_gaps xs i pivot m
+unfolding row_gaps
+gaps_skip xs i pivot was now n m le s = (let c = count_below-on (λ k. is_zero (entry_at xs i k) && not (is_zero (entry_at xs pivot k))) n m le in omega arith)
+
+-- row i's entry in column n is still what it was, and row `pivot` has one there
+module _ (xs : List Node) (i pivot was now n : ℕ) (x v : ℚ) (spare : was ≤ now + row_gaps xs i pivot n) (same : x ≡ entry_at xs i n) (nz : is_zero (entry_at xs pivot n) ≡ false) where
+  taken : takes x v ≤ cond (is_zero (entry_at xs i n) && not (is_zero (entry_at xs pivot n))) 1 0
+  taken = rw (same, nz) (gap_most (is_zero (entry_at xs i n)) (not (is_zero v)))
+
+  -- the free nodes suffice for it
+  pub gaps_room : (w : ℕ) → n < w → row_gaps xs i pivot w ≤ was → takes x v ≤ now
+  unfolding row_gaps
+  gaps_room w lt room =
+      let s = spare in
+      let t = taken in
+      let c : count_below (suc n) (λ k. is_zero (entry_at xs i k) && not (is_zero (entry_at xs pivot k))) ≤ count_below w (λ k. is_zero (entry_at xs i k) && not (is_zero (entry_at xs pivot k))) = count_below-on _ (suc n) w (omega arith) in
+      omega arith
+
+  pub gaps_put : (then : ℕ) → now ≤ then + takes x v → was ≤ then + row_gaps xs i pivot (n + 1)
+  unfolding row_gaps
+  gaps_put then s = (let r = spare in let t = taken in rw add-one (omega arith))
 
 -- ---- a row on its way: columns 0 to n - 1 are reduced
 
@@ -45,7 +73,7 @@ module _ (old new : List Node) (i pivot col : ℕ) (factor : ℚ) (was now n : �
 
   -- columns in which the pivot's row has no entry are passed
   pub reducing_skip : (m : ℕ) → n ≤ m → ((k : ℕ) → n ≤ k → k < m → is_zero (entry_at old pivot k) ≡ true) → IsReducing old new i pivot col factor was now m
-  unfolding reductions_fit row_gaps
+  unfolding reductions_fit
   reducing_skip m le gap = record {
     fit = all_below-on (λ k. k == col || step_fits factor (entry_at old pivot k) (entry_at old i k)) n m le h.fit
         (λ k l u. rw (gap k l u) (or_true (k == col)));
@@ -60,14 +88,14 @@ module _ (old new : List Node) (i pivot col : ℕ) (factor : ℚ) (was now n : �
     ];
     later = λ k l. h.later k (omega arith);
     rows = h.rows;
-    spare = (let s = h.spare in let c = count_below-on (λ k. is_zero (entry_at old i k) && not (is_zero (entry_at old pivot k))) n m le in omega arith);
+    spare = gaps_skip old i pivot was now n m le h.spare;
   }
 
   -- the entry in column n is made what it is to be
   pub reducing_put : (newer : List Node) (then : ℕ) (v : ℚ) → pivot ≢ i → is_zero (entry_at old pivot n) ≡ false
       → (n == col || step_fits factor (entry_at old pivot n) (entry_at old i n)) ≡ true → v ≡ entry_after old i pivot col factor n
       → IsPut new newer i n v → now ≤ then + takes (entry_at new i n) v → IsReducing old newer i pivot col factor was then (n + 1)
-  unfolding reductions_fit row_gaps
+  unfolding reductions_fit
   reducing_put newer then v apart nz f e p s = record {
     fit = rw (add-one, h.fit, f) refl;
     reduced = λ k lt. elim (cases_Bool (k == n)) [
@@ -80,17 +108,8 @@ module _ (old new : List Node) (i pivot col : ℕ) (factor : ℚ) (was now n : �
       stays = λ m a b ne t. p.stays m a b (λ z _. ne z) (h.rows.stays m a b ne t);
       stood = λ m a b ne t. h.rows.stood m a b ne (p.stood m a b (λ z _. ne z) t);
     };
-    spare =
-        let r = h.spare in
-        let same : entry_at new i n ≡ entry_at old i n = h.later n (omega arith) in
-        let w : takes (entry_at new i n) v ≤ cond (is_zero (entry_at old i n) && not (is_zero (entry_at old pivot n))) 1 0 = rw (same, nz) (takes_most (is_zero (entry_at old i n)) (not (is_zero v))) in
-        rw add-one (omega arith);
+    spare = gaps_put old i pivot was now n (entry_at new i n) v h.spare (h.later n (omega arith)) nz then s;
   }
-    where
-      takes_most : (a b : Bool) → cond (a && b) 1 0 ≤ cond (a && true) 1 0
-      takes_most true true = omega arith
-      takes_most true false = omega arith
-      takes_most false b = omega arith
 
   pub reducing_fails : (w : ℕ) → n < w → (n == col || step_fits factor (entry_at old pivot n) (entry_at old i n)) ≡ false → reductions_fit old i pivot col factor w ≡ false
   unfolding reductions_fit
@@ -98,18 +117,7 @@ module _ (old new : List Node) (i pivot col : ℕ) (factor : ℚ) (was now n : �
 
   -- the free nodes suffice for the next column
   pub reducing_room : (w : ℕ) (v : ℚ) → n < w → row_gaps old i pivot w ≤ was → is_zero (entry_at old pivot n) ≡ false → takes (entry_at new i n) v ≤ now
-  unfolding row_gaps
-  reducing_room w v lt room nz =
-      let r = h.spare in
-      let same : entry_at new i n ≡ entry_at old i n = h.later n (omega arith) in
-      let t : takes (entry_at new i n) v ≤ cond (is_zero (entry_at old i n) && not (is_zero (entry_at old pivot n))) 1 0 = rw (same, nz) (most (is_zero (entry_at old i n)) (not (is_zero v))) in
-      let c : count_below (suc n) (λ k. is_zero (entry_at old i k) && not (is_zero (entry_at old pivot k))) ≤ count_below w (λ k. is_zero (entry_at old i k) && not (is_zero (entry_at old pivot k))) = count_below-on _ (suc n) w (omega arith) in
-      omega arith
-    where
-      most : (a b : Bool) → cond (a && b) 1 0 ≤ cond (a && true) 1 0
-      most true true = omega arith
-      most true false = omega arith
-      most false b = omega arith
+  reducing_room w v lt room nz = gaps_room old i pivot was now n (entry_at new i n) v h.spare (h.later n (omega arith)) nz w lt room
 
 -- ---- the walk along the pivot's row
 
@@ -140,17 +148,6 @@ stop_put xs ys i k v (Some q) p l =
     let c = s.col in
     record { live = s.live; line = s.row; place = omega arith }
 
--- up to the next node of row `pivot` nothing is written
-pub small_on : (old new : List Node) (i pivot done m : ℕ) (o : Option ℕ) → pivot ≢ i → KeepsRows old new i → IsFirst (by_rows new) pivot done o → AreSmall old new i pivot done
-    → ((c : ℕ) → o ≡ Some c → m ≤ col_at new c) → AreSmall old new i pivot m
-small_on old new i pivot done m o apart rows f small le k lt nz = elim (cases_Bool (nat_lt k done)) [
-  | inl e ↦ small k (ltb-true k done e) nz
-  | inr e ↦
-      (let z : is_zero (entry_at new pivot k) ≡ true = gap_before new pivot done o f k (ltb-false k done e) (λ c q. (let l = le c q in omega arith)) in
-      let s : is_zero (entry_at new pivot k) ≡ is_zero (entry_at old pivot k) = ap is_zero (rows.entries pivot k apart) in
-      absurd (let r : ⊥ = cc in r))
-]
-
 module _ (old new : List Node) (i pivot col : ℕ) (factor : ℚ) (was now done : ℕ) (node : ℕ) (left : Option ℕ) (h : IsAlong old new i pivot col factor was now done (Some node) left)
     (apart : pivot ≢ i) (pivot_entry : is_zero (entry_at old pivot col) ≡ false) where
   -- up to the next node of row `pivot` nothing has to be done
@@ -160,15 +157,6 @@ module _ (old new : List Node) (i pivot col : ℕ) (factor : ℚ) (was now done 
 
   pub along_stands : StandsAt new node pivot (col_at new node)
   along_stands = record { live = h.next.0.live; row = h.next.0.line; col = refl }
-
-  -- what is written stays small with one more
-  pub along_small : (newer : List Node) (v : ℚ) → IsPut new newer i (col_at new node) v → IsWhole 41 v → AreSmall old new i pivot done → AreSmall old newer i pivot (col_at new node + 1)
-  along_small newer v p here small k lt nz = elim (cases_Bool (k == col_at new node)) [
-    | inl q ↦ subst (IsWhole 41) (sym (ap (entry_at newer i) (eqb-true k (col_at new node) q) ∙ p.here)) here
-    | inr q ↦
-        (let ne = eqb-false k (col_at new node) q in
-        subst (IsWhole 41) (sym (p.others i k (λ _ z. ne z))) (small_on old new i pivot done (col_at new node) (Some node) apart h.row.rows h.next small (λ m e. (let z : col_at new node ≡ col_at new m = cc in omega arith)) k (omega arith) nz))
-  ]
 
   module _ (one : AreApart (by_rows new)) (inside : node < length new) where
     -- the entry of row `pivot` there is what it was
@@ -208,9 +196,6 @@ pub along_end : (old new : List Node) (i pivot col : ℕ) (factor : ℚ) (was no
 along_end old new i pivot col factor was now done w left h apart pivot_entry le =
     reducing_skip old new i pivot col factor was now done h.row pivot_entry w le
     (λ k l lt. ap is_zero (sym (h.row.rows.entries pivot k apart)) ∙ gap_before new pivot done None h.next k l (λ m e. absurd (let r : ⊥ = cc in r)))
-
-pub small_end : (old new : List Node) (i pivot col : ℕ) (factor : ℚ) (was now done w : ℕ) (left : Option ℕ) → IsAlong old new i pivot col factor was now done None left → pivot ≢ i → AreSmall old new i pivot done → AreSmall old new i pivot w
-small_end old new i pivot col factor was now done w left h apart small = small_on old new i pivot done w None apart h.row.rows h.next small (λ c e. absurd (let r : ⊥ = cc in r))
 
 -- in another column than the pivot's
 pub reduced_step : (o : Option Frac) (k col : ℕ) (factor x y z : ℚ) → k ≢ col → y ≡ z → IsChecked o (step_fits factor x y) (y -ℚ factor *ℚ x) → IsChecked o (k == col || step_fits factor x z) (reduced_entry k col factor x z)

@@ -1,23 +1,23 @@
 -- Small whole numbers, what fits of them, and quotients by numbers that aren't 0.
-use Rattle.std.specs.Prelude.{◌≡◌, ℕ, ◌+◌, ◌<◌, ◌≤◌, ◌^◌, ℤ, pos, neg_ℤ, ◌*ℤ◌, ◌≤ℤ◌, ◌<ℤ◌, unsigned_abs, Bool, true, false, ◌&&◌, ◌||◌, [], ◌∷◌}
+use Rattle.std.specs.Prelude.{◌≡◌, ℕ, ◌<◌, ◌≤◌, ◌^◌, ℤ, pos, ◌*ℤ◌, ◌≤ℤ◌, ◌<ℤ◌, unsigned_abs, Bool, true, false, ◌&&◌, ◌||◌, [], ◌∷◌}
 use Rattle.std.proofs.Common.{refl, sym, ◌∙◌, ap, ap₂, subst, arith, inl, inr}
 use Rattle.std.proofs.lemmas.Int.{ints}
 use Rattle.std.proofs.lemmas.Bool.{cases_Bool}
-use Rattle.dc_math.specs.Rational.{ℚ, Fraction, fraction_of, ratio_same, of_ℤ, of_ℤ_is, of_ℤ-*ℤ, neg_ℚ, ◌-ℚ◌, ◌*ℚ◌, ◌<ℚ◌}
+use Rattle.dc_math.specs.Rational.{ℚ, Fraction, fraction_of, ratio_same, of_ℤ, of_ℤ_is, neg_ℚ, ◌-ℚ◌, ◌*ℚ◌, ◌<ℚ◌}
 use Rattle.dc_math.specs.RationalRing.{ring, reads, read_nat, same_form, linear₁, linear₂}
 use Rattle.dc_math.specs.Inverse.{inverse, *ℚ-inverse, ◌/ℚ◌}
 use Rattle.dc_math.specs.Signs.{negated_positive}
-use Rattle.dc_math.specs.Order.{Positive, Positive_nonzero, Positive-*ℚ, inverse_positive, <ℚ_by, of_ℤ-<, of_ℤ-<_back, of_ℤ-neg_ℤ, one_nonzero}
+use Rattle.dc_math.specs.Order.{Positive, Positive_nonzero, Positive-*ℚ, inverse_positive, <ℚ_by, of_ℤ-<, of_ℤ-<_back, one_nonzero}
 use Rattle.dc_math.specs.Lowest.{lowest, ratio-lowest, lowest-of_reduced}
 use Rattle.dc_math.specs.Tests.{is_zero, is_negative, is_positive, eq_ℚ-true, eq_ℚ_true, eq_ℚ_false, lt_ℚ-true, lt_ℚ_true}
 use Rattle.dc_frac.specs.declared.Frac.{Frac}
 use Rattle.dc_frac.specs.Value.{value}
-use Rattle.dc_frac.specs.Fits.{fits, product_fits, quotient_fits, sum_fits, difference_fits, IsWithin}
+use Rattle.dc_frac.specs.Fits.{fits, product_fits, quotient_fits, difference_fits, IsWithin}
 use Rattle.dc_frac.proofs.ShortWays.{gcd_nat_one}
 use Rattle.dc_frac.proofs.Values.{same_test}
 use Rattle.dc_frac.proofs.ValueLaws.{lowest-value}
 use Rattle.dc_frac.proofs.FitLaws.{sum-fits}
-use Rattle.dc_frac.proofs.SmallSizes.{product_below, whole_within, ratio_within, quotients_fit, products_fit, steps_fit, whole_sums_fit}
+use Rattle.dc_frac.proofs.SmallSizes.{whole_within, ratio_within, quotients_fit, products_fit, steps_fit}
 use Rattle.dc_start.specs.Changes.{step_fits}
 use Rattle.dc_sparse.specs.Scales.{IsWhole, IsDen, IsPart}
 use Rattle.dc_start.proofs.Changes.{quotient-zero}
@@ -116,29 +116,11 @@ whole_value n f e h = record {
   small = subst (λ (p : Fraction). unsigned_abs p.num < 2 ^ n) (sym (lowest-value f)) h;
 }
 
-pub whole-*ℚ : (m n : ℕ) (x y : ℚ) → IsWhole m x → IsWhole n y → IsWhole (m + n) (x *ℚ y)
-whole-*ℚ m n x y h k =
-    subst (IsWhole (m + n)) (of_ℤ-*ℤ (lowest x).num (lowest y).num ∙ ap₂ ◌*ℚ◌ (whole_is m x h) (whole_is n y k))
-    (whole_of (m + n) ((lowest x).num *ℤ (lowest y).num) (product_below m n (lowest x).num (lowest y).num h.small k.small))
-
 -- ---- what fits of whole numbers
 
 step_true : (a b c : Bool) → b ≡ true → c ≡ true → (a || b && c) ≡ true
 step_true true b c e f = refl
 step_true false b c e f = rw (e, f) refl
-
--- the size of a whole number's negation
-neg_below : (n : ℕ) (z : ℤ) → unsigned_abs z < n → unsigned_abs (neg_ℤ z) < n
-neg_below n z h = omega (arith, ints)
-
-difference_whole : (z w : ℤ) → unsigned_abs z < 2 ^ 82 → unsigned_abs w < 2 ^ 82 → difference_fits (of_ℤ z) (of_ℤ w) ≡ true
-difference_whole z w h k = ap (sum_fits (of_ℤ z)) (sym (of_ℤ-neg_ℤ w)) ∙ whole_sums_fit z (neg_ℤ w) (omega arith) (let l = neg_below (2 ^ 82) w k in omega arith)
-
-pub whole_steps : (f x y : ℚ) → IsWhole 41 f → IsWhole 41 x → IsWhole 82 y → step_fits f x y ≡ true
-whole_steps f x y h k l =
-    step_true (is_zero x) (product_fits f x) (difference_fits y (f *ℚ x)) (products_fit 41 41 f x (whole_small 41 f (omega arith) h) (whole_small 41 x (omega arith) k) (omega arith))
-    (let p : IsWhole 82 (f *ℚ x) = whole-*ℚ 41 41 f x h k in
-    subst (λ v. difference_fits v (f *ℚ x) ≡ true) (whole_is 82 y l) (subst (λ v. difference_fits (of_ℤ (lowest y).num) v ≡ true) (whole_is 82 (f *ℚ x) p) (difference_whole (lowest y).num (lowest (f *ℚ x)).num l.small p.small)))
 
 -- ---- numbers over a denominator
 

@@ -1,5 +1,5 @@
 -- One row of a pivot: a multiple of the pivot's row is taken from another.
-use Rattle.std.specs.Prelude.{◌≡◌, ◌≢◌, ℕ, ◌<◌, Bool, not, ◌&&◌, ◌||◌, ◌==◌, cond, pos, List, true, false, Option, Some, None}
+use Rattle.std.specs.Prelude.{◌≡◌, ◌≢◌, ℕ, ◌<◌, ◌≤◌, Bool, not, ◌&&◌, ◌||◌, ◌==◌, cond, pos, List, true, false, Option, Some, None}
 use Rattle.dc_math.specs.Rational.{ℚ, ◌-ℚ◌, ◌*ℚ◌, of_ℤ}
 use Rattle.dc_math.specs.Inverse.{◌/ℚ◌}
 use Rattle.dc_math.specs.Tests.{is_zero, is_negative}
@@ -8,7 +8,7 @@ use Rattle.dc_lp.specs.Meanings.{all_below}
 use Rattle.dc_lp.specs.Fill.{count_below, count_places}
 use Rattle.dc_start.specs.Changes.{step_fits}
 use Rattle.dc_sparse.specs.declared.web.Node.{Node}
-use Rattle.dc_sparse.specs.Entries.{entry_at, StandsAt}
+use Rattle.dc_sparse.specs.Entries.{entry_at, StandsAt, KeepsPlaces}
 
 -- what must fit in the columns 0 to n - 1 but col, where factor times row `pivot` is taken from row i
 unfoldable pub reductions_fit : List Node → ℕ → ℕ → ℕ → ℚ → ℕ → Bool
@@ -37,6 +37,23 @@ pub record KeepsRows (old new : List Node) (i : ℕ) : Type 0 where
   pub entries : (a b : ℕ) → a ≢ i → entry_at new a b ≡ entry_at old a b
   pub stays : (n a b : ℕ) → a ≢ i → StandsAt old n a b → StandsAt new n a b
   pub stood : (n a b : ℕ) → a ≢ i → StandsAt new n a b → StandsAt old n a b
+
+-- ---- a row of whole numbers
+
+-- row i's entries in columns n to m - 1 are multiplied; all other entries stay, and all nodes stay where they are
+pub record IsMultiplied (old new : List Node) (i n m : ℕ) (times : ℚ) : Type 0 where
+  pub here : (k : ℕ) → n ≤ k → k < m → entry_at new i k ≡ entry_at old i k *ℚ times
+  pub before : (k : ℕ) → k < n → entry_at new i k ≡ entry_at old i k
+  pub behind : (k : ℕ) → m ≤ k → entry_at new i k ≡ entry_at old i k
+  pub others : (a b : ℕ) → a ≢ i → entry_at new a b ≡ entry_at old a b
+  pub places : KeepsPlaces old new
+
+-- what column k of row i becomes where `factor` times row `pivot` is taken from `times` times row i
+abbrev pub combined_entry : List Node → ℕ → ℕ → ℕ → ℚ → ℚ → ℕ → ℚ
+combined_entry xs i pivot col times factor k = reduced_entry k col factor (entry_at xs pivot k) (entry_at xs i k *ℚ times)
+
+abbrev pub AreCombined : List Node → List Node → ℕ → ℕ → ℕ → ℚ → ℚ → ℕ → Type 0
+AreCombined old new i pivot col times factor n = (k : ℕ) → k < n → entry_at new i k ≡ combined_entry old i pivot col times factor k
 
 -- ---- the pivot's row
 

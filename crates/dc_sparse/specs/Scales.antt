@@ -1,9 +1,8 @@
 -- Rows of fractions, and rows of whole numbers over one denominator.
-use Rattle.std.specs.Prelude.{◌≡◌, ℕ, ◌<◌, ◌≤◌, ◌^◌, pos, unsigned_abs, true, false, List, length, slice_index_or, Option, Some, None}
+use Rattle.std.specs.Prelude.{◌≡◌, ℕ, ◌<◌, ◌≤◌, ◌^◌, ℤ, pos, ◌≤ℤ◌, unsigned_abs, true, List, length, slice_index_or, Option, Some, None}
 use Rattle.dc_math.specs.Rational.{ℚ, of_ℤ}
 use Rattle.dc_math.specs.Inverse.{◌/ℚ◌}
 use Rattle.dc_math.specs.Order.{Positive}
-use Rattle.dc_math.specs.Tests.{is_zero}
 use Rattle.dc_math.specs.Lowest.{lowest}
 use Rattle.dc_frac.specs.declared.Frac.{Frac}
 use Rattle.dc_frac.specs.Value.{value}
@@ -20,6 +19,11 @@ pub record IsWhole (n : ℕ) (x : ℚ) : Type 0 where
 pub record IsDen (x : ℚ) : Type 0 where
   pub positive : Positive x
   pub small : IsWhole 41 x
+
+-- what a row of whole numbers is multiplied by
+pub record IsMultiplier (z : ℤ) : Type 0 where
+  pub positive : pos 1 ≤ℤ z
+  pub small : unsigned_abs z < 2 ^ 41
 
 -- the denominator of row i, `None` where the row holds fractions
 unfoldable pub scale_at : List (Option Frac) → ℕ → Option Frac
@@ -55,8 +59,3 @@ pub record IsPart (x by : ℚ) : Type 0 where
 -- that of each number of a row
 abbrev pub AreParted : (ℕ → ℚ) → ℚ → Type 0
 AreParted row by = (k : ℕ) → IsPart (row k) by
-
--- in each column below n in which row `pivot` had an entry, row i has a whole number below 2^41
-abbrev pub AreSmall : List Node → List Node → ℕ → ℕ → ℕ → Type 0
-AreSmall old new i pivot n =
-    (k : ℕ) → k < n → is_zero (entry_at old pivot k) ≡ false → IsWhole 41 (entry_at new i k)

@@ -1,6 +1,7 @@
 //! A sparse tableau: its nonzero entries are nodes of an arena, linked in rows and in columns.
 #![tactic(auto)]
 
+mod combine;
 mod cross;
 mod fill;
 pub mod laws;

@@ -165,9 +165,8 @@ impl Scaled {
             unreachable!();
         };
         self.dens[row] = None;
-        self.web.multiply_row(row, ratio.den);
-        let reduced = self.web.reduce_row(row, pivot, col, Frac::whole(ratio.num));
-        self.settle(row, by, reduced.small, ratio.den == 1);
+        let small = self.web.combine_row(row, pivot, col, ratio.den, ratio.num);
+        self.settle(row, by, small);
     }
 
     /// The same for two rows that needn't hold whole numbers.
@@ -191,7 +190,7 @@ impl Scaled {
     {
         self.spread(row);
         let factor = self.factor(row, pivot, col);
-        if !self.web.reduce_row(row, pivot, col, factor).fits {
+        if !self.web.reduce_row(row, pivot, col, factor) {
             return false;
         }
         self.gather(row);

@@ -9,51 +9,32 @@ ghost use Rattle.dc_sparse.specs.Lines.{IsFirst, IsLast};
 ghost use Rattle.dc_sparse.specs.Entries.{entry_at, IsNodeAt, KeepsPlaces};
 ghost use Rattle.dc_sparse.specs.Rows.{IsFirstNegative, reductions_fit, reduced_entry, row_gaps, AreReduced, KeepsRows};
 ghost use Rattle.dc_sparse.specs.Rows.{divisions_fit, AreDivided, rows_gaps, entries_in};
-ghost use Rattle.dc_sparse.specs.Scales.{IsWhole, AreSmall};
 ghost use Rattle.dc_sparse.specs.Held.{nodes_of, node_count, height_of, width_of, rows_of, columns_of};
 
 use crate::web::Web;
-use crate::whole::{is_small, quotient};
+use crate::whole::quotient;
 use dc_frac::Frac;
 use dc_start::step;
 
-/// What came of a row's reduction: whether it fits, and whether all numbers that it wrote are whole and small. It may say that they
-/// aren't where they are.
-#[derive(Clone, Copy, Drop)]
-pub(crate) struct Reduction {
-    pub fits: bool,
-    pub small: bool,
-}
-
 impl Web {
-    /// Takes `factor` times row `pivot` from another row. Column `col` becomes 0. Where that doesn't fit, the row is left half done.
-    /// It takes no memory.
-    pub(crate) fn reduce_row(
-        &mut self,
-        row: usize,
-        pivot: usize,
-        col: usize,
-        factor: Frac,
-    ) -> Reduction
+    /// Takes `factor` times row `pivot` from another row. Column `col` becomes 0. Whether that fits; where it doesn't, the row is left
+    /// half done. It takes no memory.
+    pub(crate) fn reduce_row(&mut self, row: usize, pivot: usize, col: usize, factor: Frac) -> bool
         requires row { row < height_of self.old }
         requires pivot { pivot < height_of self.old }
         requires other { pivot ≢ row }
         requires entry { is_zero (entry_at (nodes_of self.old) pivot col) ≡ false }
         requires spare { row_gaps (nodes_of self.old) row pivot (width_of self.old) ≤ self.old.spare }
-        ensures fits { result.fits
-            ≡ reductions_fit (nodes_of self.old) row pivot col (value factor) (width_of self.old) }
-        ensures small { IsTrue result.small
-            → AreSmall (nodes_of self.old) (nodes_of self.new) row pivot (width_of self.old) }
-        ensures reduced { IsTrue result.fits
+        ensures fits { result ≡ reductions_fit (nodes_of self.old) row pivot col (value factor) (width_of self.old) }
+        ensures reduced { IsTrue result
             → AreReduced (nodes_of self.old) (nodes_of self.new) row pivot col (value factor) (width_of self.old) }
         ensures others { KeepsRows (nodes_of self.old) (nodes_of self.new) row }
-        ensures spare { IsTrue result.fits → self.old.spare
+        ensures spare { IsTrue result → self.old.spare
             ≤ self.new.spare + row_gaps (nodes_of self.old) row pivot (width_of self.old) }
         ensures arena { node_count self.new ≡ node_count self.old }
         ensures height { height_of self.new ≡ height_of self.old }
         ensures width { width_of self.new ≡ width_of self.old }
     {
-        let mut small = true;
         let mut left = None;
         let mut done = 0;
         let mut source = self.right_of(pivot, None);
@@ -63,21 +44,13 @@ impl Web {
             left = self.left_of(row, at, left);
             let found = self.node_at(row, at, left);
             match self.entry_after(row, at, col, factor, by, found) {
-                Some(entry) => {
-                    small = stays_small(small, entry);
-                    self.put(row, at, entry, left, found);
-                }
-                None => {
-                    return Reduction {
-                        fits: false,
-                        small: false,
-                    };
-                }
+                Some(entry) => self.put(row, at, entry, left, found),
+                None => return false,
             }
             done = at + 1;
             source = self.nodes[node].right();
         }
-        Reduction { fits: true, small }
+        true
     }
 
     /// Divides a row. Whether the quotients fit; where they don't, the row is left half done. It takes no memory.
@@ -270,12 +243,4 @@ impl Web {
             None => step(Frac::whole(0), factor, by),
         }
     }
-}
-
-/// Whether numbers stay whole and small with one more.
-fn stays_small(small: bool, entry: Frac) -> bool
-    ensures before { IsTrue result → IsTrue small }
-    ensures here { IsTrue result → IsWhole 41 (value entry) }
-{
-    small && is_small(&entry)
 }

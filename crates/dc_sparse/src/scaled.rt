@@ -161,30 +161,19 @@ impl Scaled {
         self.dens[row] = None;
     }
 
-    /// Makes a row its numbers over `by` as they are, where they and `by` are small whole numbers. Whether they are; else nothing
-    /// changes. The row isn't searched where its numbers are `known` to be small. It takes no memory.
-    pub(crate) fn keep(&mut self, row: usize, by: Frac, known: bool) -> bool
+    /// Makes a row of small whole numbers these over `by`, where `by` is a denominator. Whether it is; else nothing changes. It takes no
+    /// memory.
+    pub(crate) fn keep(&mut self, row: usize, by: Frac) -> bool
         requires row { row < height_of self.old.web }
-        requires known { IsTrue known
-            → (k : ℕ) → IsWhole 41 (entry_at (nodes_of self.old.web) row k) }
+        requires whole { (k : ℕ) → IsWhole 41 (entry_at (nodes_of self.old.web) row k) }
         ensures taken { IsTrue result → TakesOver self.old self.new row (value by) }
         ensures refused { IsFalse result → self.new ≡ self.old }
     {
-        if !is_den(&by) || !self.has_small(row, known) {
+        if !is_den(&by) {
             return false;
         }
         self.dens[row] = Some(by);
         true
-    }
-
-    /// Whether the numbers of a row are whole and small. It isn't searched where that is `known`.
-    fn has_small(&self, row: usize, known: bool) -> bool
-        requires row { row < height_of self.now.web }
-        requires known { IsTrue known
-            → (k : ℕ) → IsWhole 41 (entry_at (nodes_of self.now.web) row k) }
-        ensures { IsTrue result → (k : ℕ) → IsWhole 41 (entry_at (nodes_of self.now.web) row k) }
-    {
-        known || self.web.is_whole(row)
     }
 
     /// Makes a row its numbers over `by`, all without their common divisor: as whole numbers where these are small, and else as
@@ -203,17 +192,16 @@ impl Scaled {
     }
 
     /// Makes a row its numbers over `by`, as whole numbers where these are small, if need be without their common divisor. `small` tells
-    /// that some numbers of the row are whole and small, and `others` that the rest are. It takes no memory.
-    pub(crate) fn settle(&mut self, row: usize, by: Frac, small: bool, others: bool)
+    /// that all numbers of the row are whole and small. It takes no memory.
+    pub(crate) fn settle(&mut self, row: usize, by: Frac, small: bool)
         requires row { row < height_of self.old.web }
-        requires whole { IsTrue small → IsTrue others
-            → (k : ℕ) → IsWhole 41 (entry_at (nodes_of self.old.web) row k) }
+        requires whole { IsTrue small → (k : ℕ) → IsWhole 41 (entry_at (nodes_of self.old.web) row k) }
         requires by { is_zero (value by) ≡ false }
         requires fit { (k : ℕ)
             → quotient_fits (entry_at (nodes_of self.old.web) row k) (value by) ≡ true }
         ensures { TakesOver self.old self.new row (value by) }
     {
-        if !small || !self.keep(row, by, others) {
+        if !small || !self.keep(row, by) {
             self.lower(row, by);
         }
     }

@@ -39,24 +39,6 @@ pub(crate) fn is_den(number: &Frac) -> bool
 }
 
 impl Web {
-    /// Whether the numbers of a row are whole and small.
-    pub(crate) fn is_whole(&self, row: usize) -> bool
-        requires row { row < height_of self.now }
-        ensures { IsTrue result → (k : ℕ) → IsWhole 41 (entry_at (nodes_of self.now) row k) }
-    {
-        let mut done = 0;
-        let mut next = self.right_of(row, None);
-        while let Some(node) = next {
-            let at = self.nodes[node].col();
-            if !is_small(&self.nodes[node].value) {
-                return false;
-            }
-            done = at + 1;
-            next = self.nodes[node].right();
-        }
-        true
-    }
-
     /// Whether the numbers of a row divided by `by` are whole and small.
     pub(crate) fn is_parted(&self, row: usize, by: Frac) -> bool
         requires row { row < height_of self.now }
@@ -79,23 +61,6 @@ impl Web {
             next = self.nodes[node].right();
         }
         true
-    }
-
-    /// Multiplies a row by a whole number. It takes no memory.
-    pub(crate) fn multiply_row(&mut self, row: usize, by: i128)
-        requires row { row < height_of self.old }
-        requires positive { pos 1 ≤ℤ by }
-        requires fit { (k : ℕ)
-            → product_fits (entry_at (nodes_of self.old) row k) (of_ℤ by) ≡ true }
-        ensures multiplied { (k : ℕ)
-            → entry_at (nodes_of self.new) row k ≡ entry_at (nodes_of self.old) row k *ℚ of_ℤ by }
-        ensures others { KeepsRows (nodes_of self.old) (nodes_of self.new) row }
-        ensures places { KeepsPlaces (nodes_of self.old) (nodes_of self.new) }
-        ensures sizes { KeepsSizes self.old self.new }
-    {
-        if by != 1 {
-            let _fits = self.divide_row(row, Frac::new(1, by));
-        }
     }
 
     /// A common divisor of `by` and the numerators of a row, with the sign of `by`.

@@ -11,8 +11,8 @@ pub invariant_of-self : goal.invariant_of-self
 invariant_of-self c =
     let s = c.args.self.now in
     let lt : c.args.row < length s.dens.items = (let l = s.scaled.long in omega arith) in
-    let den : IsDen (value c.args.by) = c.if-not-is_den.ensures refl in
-    let whole : (k : ℕ) → IsWhole 41 (entry_at s.web.nodes.items c.args.row k) = c.has_small.ensures c.if-not-has_small.false in
+    let den : IsDen (value c.args.by) = c.is_den.ensures c.if-not-is_den.false in
+    let whole : (k : ℕ) → IsWhole 41 (entry_at s.web.nodes.items c.args.row k) = c.requires.whole in
     record { scaled = scaled-set s.web.nodes.items s.dens.items (length s.web.row_heads.items) s.scaled s.web.nodes.items c.args.row (Some c.args.by) lt (λ a b ne. refl) (den, whole) }
 
 pub returns-clause-taken : goal.returns-clause-taken

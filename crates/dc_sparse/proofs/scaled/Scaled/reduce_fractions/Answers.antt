@@ -1,5 +1,4 @@
 use Rattle.std.proofs.Common.{◌≡◌, ◌≢◌, ◌≤◌, ◌+◌, ◌∙◌, ℕ, None, length, arith, sym, subst, ap, ap₂, refl}
-use Rattle.std.proofs.lemmas.Bool.{not-true, not-false}
 use Rattle.dc_math.specs.Rational.{◌*ℚ◌}
 use Rattle.dc_frac.specs.Value.{value}
 use Rattle.dc_sparse.specs.Entries.{entry_at}
@@ -54,10 +53,10 @@ returns-then-not-reduce_row-clause-fits c =
     let wide : length t.web.col_heads.items ≡ length s.web.col_heads.items = e₂.others.sizes.width ∙ e₁.others.sizes.width in
     let product : (k : ℕ) → value c.factor-factor.result *ℚ entry_at t.web.nodes.items c.args.pivot k ≡ held_at s c.args.row c.args.col *ℚ held_at s c.args.pivot k =
     λ k. c.factor-factor.ensures.factor k ∙ ap₂ ◌*ℚ◌ (all_entries s c.spread.new.self c.args.row e₁ c.args.row c.args.col) (all_entries s c.spread.new.self c.args.row e₁ c.args.pivot k) in
-    let fit : c.reduce_row.result.fits ≡ steps_fit (held_at s) (length s.web.col_heads.items) c.args.pivot c.args.col c.args.row =
+    let fit : c.reduce_row.result ≡ steps_fit (held_at s) (length s.web.col_heads.items) c.args.pivot c.args.col c.args.row =
     c.reduce_row.ensures.fits ∙ ap (λ z. reductions_fit t.web.nodes.items c.args.row c.args.pivot c.args.col (value c.factor-factor.result) z) wide
     ∙ fractions_fit s t c.args.row c.args.pivot c.args.col same one (value c.factor-factor.result) product (length s.web.col_heads.items) in
-    sym (not-true c.reduce_row.result.fits c.if-not-reduce_row.true) ∙ fit
+    sym c.if-not-reduce_row.true ∙ fit
 
 pub returns-then-not-reduce_row-clause-others : goal.returns-then-not-reduce_row-clause-others
 returns-then-not-reduce_row-clause-others c =
@@ -90,10 +89,10 @@ returns-clause-fits c =
     let wide : length t.web.col_heads.items ≡ length s.web.col_heads.items = e₂.others.sizes.width ∙ e₁.others.sizes.width in
     let product : (k : ℕ) → value c.factor-factor.result *ℚ entry_at t.web.nodes.items c.args.pivot k ≡ held_at s c.args.row c.args.col *ℚ held_at s c.args.pivot k =
     λ k. c.factor-factor.ensures.factor k ∙ ap₂ ◌*ℚ◌ (all_entries s c.spread.new.self c.args.row e₁ c.args.row c.args.col) (all_entries s c.spread.new.self c.args.row e₁ c.args.pivot k) in
-    let fit : c.reduce_row.result.fits ≡ steps_fit (held_at s) (length s.web.col_heads.items) c.args.pivot c.args.col c.args.row =
+    let fit : c.reduce_row.result ≡ steps_fit (held_at s) (length s.web.col_heads.items) c.args.pivot c.args.col c.args.row =
     c.reduce_row.ensures.fits ∙ ap (λ z. reductions_fit t.web.nodes.items c.args.row c.args.pivot c.args.col (value c.factor-factor.result) z) wide
     ∙ fractions_fit s t c.args.row c.args.pivot c.args.col same one (value c.factor-factor.result) product (length s.web.col_heads.items) in
-    sym (not-false c.reduce_row.result.fits c.if-not-reduce_row.false) ∙ fit
+    sym c.if-not-reduce_row.false ∙ fit
 
 pub returns-clause-reduced : goal.returns-clause-reduced
 returns-clause-reduced c _ k lk =
@@ -107,7 +106,7 @@ returns-clause-reduced c _ k lk =
     let wide : length t.web.col_heads.items ≡ length s.web.col_heads.items = e₂.others.sizes.width ∙ e₁.others.sizes.width in
     let product : (k : ℕ) → value c.factor-factor.result *ℚ entry_at t.web.nodes.items c.args.pivot k ≡ held_at s c.args.row c.args.col *ℚ held_at s c.args.pivot k =
     λ k. c.factor-factor.ensures.factor k ∙ ap₂ ◌*ℚ◌ (all_entries s c.spread.new.self c.args.row e₁ c.args.row c.args.col) (all_entries s c.spread.new.self c.args.row e₁ c.args.pivot k) in
-    c.gather.ensures.here k ∙ held-none _ c.args.row k one ∙ c.reduce_row.ensures.reduced (not-false c.reduce_row.result.fits c.if-not-reduce_row.false) k (omega arith)
+    c.gather.ensures.here k ∙ held-none _ c.args.row k one ∙ c.reduce_row.ensures.reduced c.if-not-reduce_row.false k (omega arith)
     ∙ fractions_after s t c.args.row c.args.pivot c.args.col same one (value c.factor-factor.result) product k
 
 pub returns-clause-others : goal.returns-clause-others
@@ -143,7 +142,7 @@ returns-clause-spare c _ =
     let product : (k : ℕ) → value c.factor-factor.result *ℚ entry_at t.web.nodes.items c.args.pivot k ≡ held_at s c.args.row c.args.col *ℚ held_at s c.args.pivot k =
     λ k. c.factor-factor.ensures.factor k ∙ ap₂ ◌*ℚ◌ (all_entries s c.spread.new.self c.args.row e₁ c.args.row c.args.col) (all_entries s c.spread.new.self c.args.row e₁ c.args.pivot k) in
     let g = fractions_gaps s t c.args.row c.args.pivot c.args.col same one (value c.factor-factor.result) product (length s.web.col_heads.items) in
-    let r = subst (λ z. t.web.spare ≤ c.reduce_row.new.self.spare + row_gaps t.web.nodes.items c.args.row c.args.pivot z) wide (c.reduce_row.ensures.spare (not-false c.reduce_row.result.fits c.if-not-reduce_row.false)) in
+    let r = subst (λ z. t.web.spare ≤ c.reduce_row.new.self.spare + row_gaps t.web.nodes.items c.args.row c.args.pivot z) wide (c.reduce_row.ensures.spare c.if-not-reduce_row.false) in
     let q₁ = e₁.others.sizes.spare in
     let q₂ = e₂.others.sizes.spare in
     let q₃ = c.gather.ensures.others.sizes.spare in

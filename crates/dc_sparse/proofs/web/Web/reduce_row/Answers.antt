@@ -8,7 +8,7 @@ use Rattle.dc_start.specs.Changes.{step_fits}
 use Rattle.dc_sparse.specs.Rows.{reduced_entry}
 use Rattle.dc_sparse.proofs.Cells.{item_live, item-read}
 use Rattle.dc_sparse.proofs.Links.{col-read, right-read}
-use Rattle.dc_sparse.proofs.RowSteps.{IsAlong, reducing_start, along_stands, along_room, along_fails, along_step, along_stop, along_end, along_small, small_end}
+use Rattle.dc_sparse.proofs.RowSteps.{IsAlong, reducing_start, along_stands, along_room, along_fails, along_step, along_stop, along_end}
 use Rattle.dc_sparse.proofs.web.Web.reduce_row.Goals as goal
 
 pub loop-source-init : goal.loop-source-init
@@ -18,7 +18,6 @@ loop-source-init c = record {
     next = c.right_of-source.ensures;
     stop = tt;
   };
-  small = λ _ k lt nz. absurd (omega arith);
   arena = refl;
   height = refl;
   width = refl;
@@ -150,7 +149,6 @@ loop-source-preserved c =
     let t = p.stays n c.args.pivot (col_at w.nodes.items n) (λ z _. c.requires.other z) (along_stands c.args.self.now.nodes.items w.nodes.items c.args.row c.args.pivot c.args.col (value c.args.factor) c.args.self.now.spare w.spare c.loop-source.done n c.loop-source.left a c.requires.other c.requires.entry) in
     let right : c.right-source.result ≡ right_at newer.nodes.items n = c.right-source.ensures.is ∙ right-read newer.nodes.items n c.index-in-Some-2.result.now (item_live newer.nodes.items n t.live) c.index-in-Some-2.ensures in
     record {
-      small = λ h. rw e (along_small c.args.self.now.nodes.items w.nodes.items c.args.row c.args.pivot c.args.col (value c.args.factor) c.args.self.now.spare w.spare c.loop-source.done n c.loop-source.left a c.requires.other c.requires.entry newer.nodes.items v p (c.stays_small-small.ensures.here h) (c.loop-source.invariant.small (c.stays_small-small.ensures.before h)));
       along = rw (e, right) s;
       arena = c.put.ensures.arena ∙ c.loop-source.invariant.arena;
       height = c.put.ensures.height ∙ c.loop-source.invariant.height;
@@ -178,9 +176,3 @@ returns-clause-spare c =
     let a : IsAlong c.args.self.now.nodes.items w.nodes.items c.args.row c.args.pivot c.args.col (value c.args.factor) c.args.self.now.spare w.spare c.loop-source.done None c.loop-source.left = rw c.in_default.is at c.loop-source.invariant.along in
     let r = along_end c.args.self.now.nodes.items w.nodes.items c.args.row c.args.pivot c.args.col (value c.args.factor) c.args.self.now.spare w.spare c.loop-source.done (length c.args.self.now.col_heads.items) c.loop-source.left a c.requires.other c.requires.entry c.loop-source.invariant.within in
     λ _. r.spare
-
-pub returns-clause-small : goal.returns-clause-small
-returns-clause-small c =
-    let w = c.loop-source.self in
-    let a : IsAlong c.args.self.now.nodes.items w.nodes.items c.args.row c.args.pivot c.args.col (value c.args.factor) c.args.self.now.spare w.spare c.loop-source.done None c.loop-source.left = rw c.in_default.is at c.loop-source.invariant.along in
-    λ h. small_end c.args.self.now.nodes.items w.nodes.items c.args.row c.args.pivot c.args.col (value c.args.factor) c.args.self.now.spare w.spare c.loop-source.done (length c.args.self.now.col_heads.items) c.loop-source.left a c.requires.other (c.loop-source.invariant.small h)
