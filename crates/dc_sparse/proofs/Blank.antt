@@ -5,8 +5,7 @@ use Rattle.dc_math.specs.Rational.{ℚ, of_ℤ}
 use Rattle.dc_math.specs.Tests.{is_zero, eq_ℚ-true}
 use Rattle.dc_frac.specs.Value.{value}
 use Rattle.dc_sparse.specs.declared.web.Node.{Node}
-use Rattle.dc_sparse.specs.Lines.{IsLast}
-use Rattle.dc_sparse.specs.Nodes.{link, row_at, col_at, item, right_at, head_at, is_live, by_rows}
+use Rattle.dc_sparse.specs.Nodes.{link, row_at, item, right_at, head_at, is_live}
 use Rattle.dc_sparse.specs.Webs.{IsFree, IsTop, free_count, IsWoven, IsBlank, AreEmpty, AreFreed, top_of}
 use Rattle.dc_sparse.specs.Entries.{IsPut, KeepsAll}
 use Rattle.dc_sparse.proofs.Cells.{IsWritten, at_same, at_other}
