@@ -38,7 +38,7 @@ branch-returns t c = (
   (pair (leaf c.in_ok-expect.field-0) (pair (leaf c.in_ok-expect-2.field-0) (pair c.in_ok-condition.ensures.0 (pair (leaf c.in_ok-expect-3.field-0) (pair c.in_ok-yes.ensures.0 c.in_ok-no.ensures.0))))),
   (seq-ok c.in_ok-expect.ensures (seq-ok c.in_ok-expect-2.ensures (seq-ok c.in_ok-condition.ensures.1 (seq-ok c.in_ok-expect-3.ensures (seq-ok c.in_ok-yes.ensures.1 c.in_ok-no.ensures.1))))),
   record {
-    said = branches (choice_of (places c.args.scope.now) c.in_ok-condition.ensures.0) _ _ _ _ _ c.in_ok-condition.ensures.2 c.in_ok-yes.ensures.2.said c.in_ok-no.ensures.2.said ∙ sym c.branched.ensures;
+    said = branches (choice_of (places c.args.scope.now) c.in_ok-condition.ensures.0) _ _ _ _ _ c.in_ok-condition.ensures.2 c.in_ok-yes.ensures.2.said c.in_ok-no.ensures.2.said ∙ sym c.branch_stmt.ensures;
     begun = begun_both _ _ _ (block_starts c.in_ok-yes.ensures.0) (else_starts c.in_ok-no.ensures.0) c.in_ok-yes.ensures.2.begun c.in_ok-no.ensures.2.begun;
   },
 )
@@ -84,7 +84,7 @@ repeat-returns t c = (
   (pair (leaf c.in_ok-expect.field-0) (pair (leaf c.in_ok-expect-2.field-0) (pair c.in_ok-condition.ensures.0 (pair (leaf c.in_ok-expect-3.field-0) c.in_ok-body.ensures.0)))),
   (seq-ok c.in_ok-expect.ensures (seq-ok c.in_ok-expect-2.ensures (seq-ok c.in_ok-condition.ensures.1 (seq-ok c.in_ok-expect-3.ensures c.in_ok-body.ensures.1)))),
   record {
-    said = loops (choice_of (places c.args.scope.now) c.in_ok-condition.ensures.0) _ _ _ c.in_ok-condition.ensures.2 c.in_ok-body.ensures.2.said ∙ sym c.looped.ensures;
+    said = loops (choice_of (places c.args.scope.now) c.in_ok-condition.ensures.0) _ _ _ c.in_ok-condition.ensures.2 c.in_ok-body.ensures.2.said ∙ sym c.loop_stmt.ensures;
     begun = c.in_ok-body.ensures.2.begun;
   },
 )
