@@ -163,9 +163,9 @@ impl Web {
         if self.nodes[node].col() < done {
             return small;
         }
-        let product = Frac::whole(self.nodes[node].value.num * times);
-        self.set(node, product);
-        stays_small(small, product)
+        let entry = Frac::whole(product(self.nodes[node].value, times));
+        self.set(node, entry);
+        stays_small(small, entry)
     }
 
     /// `times` times the number in a column of a row, whose node is `found`, less `factor` times what the pivot's row has there: `by`.
@@ -190,12 +190,22 @@ impl Web {
         if at == col {
             return Frac::whole(0);
         }
-        let taken = factor * by.num;
+        let taken = product(by, factor);
         match found {
-            Some(node) => Frac::whole(self.nodes[node].value.num * times - taken),
+            Some(node) => Frac::whole(product(self.nodes[node].value, times) - taken),
             None => Frac::whole(-taken),
         }
     }
+}
+
+/// A small whole number times another one.
+fn product(number: Frac, by: i128) -> i128
+    requires number { IsWhole 41 (value number) }
+    requires by { unsigned_abs by < 2 ^ 41 }
+    ensures value { of_ℤ result ≡ value number *ℚ of_ℤ by }
+    ensures small { unsigned_abs result < 2 ^ 82 }
+{
+    number.num * by
 }
 
 /// Whether numbers stay whole and small with one more.
