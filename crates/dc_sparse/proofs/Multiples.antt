@@ -1,18 +1,16 @@
 -- Rows of whole numbers that are multiplied, and what products and differences of whole numbers are.
-use Rattle.std.specs.Prelude.{◌≡◌, ◌≢◌, ℕ, ◌+◌, ◌-◌, ◌<◌, ◌≤◌, ◌^◌, max, ℤ, pos, ◌-ℤ◌, ◌*ℤ◌, neg_ℤ, unsigned_abs, Bool, true, IsTrue, ◌==◌, List, length, Option, Some, None}
+use Rattle.std.specs.Prelude.{◌≡◌, ◌≢◌, ℕ, ◌+◌, ◌-◌, ◌<◌, ◌≤◌, ◌^◌, max, ℤ, pos, ◌-ℤ◌, neg_ℤ, unsigned_abs, Bool, true, IsTrue, ◌==◌, List, length, Option, Some, None}
 use Rattle.std.proofs.Common.{refl, sym, ◌∙◌, ap, ap₂, subst, arith, inl, inr, nat_lt, SFits, [], ◌∷◌}
 use Rattle.std.proofs.lemmas.Int.{ints}
 use Rattle.std.proofs.lemmas.Bool.{cases_Bool, ne_eqb, eqb-true, eqb-false, ltb-true, ltb-false}
 use mir.Syntax.{w128}
-use Rattle.dc_math.specs.Rational.{ℚ, Fraction, of_ℤ, of_ℤ-+ℤ, of_ℤ-*ℤ, neg_ℚ, ◌+ℚ◌, ◌*ℚ◌}
+use Rattle.dc_math.specs.Rational.{ℚ, Fraction, of_ℤ, of_ℤ-+ℤ, neg_ℚ, ◌+ℚ◌, ◌-ℚ◌, ◌*ℚ◌}
 use Rattle.dc_math.specs.RationalRing.{ring, reads, read_nat, same_form}
 use Rattle.dc_math.specs.Order.{of_ℤ-neg_ℤ}
-use Rattle.dc_math.specs.Lowest.{lowest}
 use Rattle.dc_math.specs.Tests.{is_zero, eq_ℚ_true}
 use Rattle.dc_frac.specs.declared.Frac.{Frac}
 use Rattle.dc_frac.specs.Value.{value}
 use Rattle.dc_frac.proofs.ValueLaws.{lowest-value}
-use Rattle.dc_frac.proofs.SmallSizes.{product_below}
 use Rattle.dc_sparse.specs.declared.web.Node.{Node}
 use Rattle.dc_sparse.specs.Lines.{AreApart, AreLinked, IsFirst, IsLast, StandsBefore, place_after}
 use Rattle.dc_sparse.specs.Nodes.{col_at, right_at, item, by_rows}
@@ -28,44 +26,42 @@ use Rattle.dc_sparse.proofs.Wholes.{whole_is, whole_zero}
 -- ---- numbers
 
 -- the numerator of a small whole number
-pub whole_num : (f : Frac) (x : ℚ) → value f ≡ x → IsWhole 41 x → of_ℤ f.num ≡ x
-whole_num f x e h = subst (λ (p : Fraction). of_ℤ p.num ≡ x) (ap lowest (sym e) ∙ lowest-value f) (whole_is 41 x h)
+pub whole_num : (f : Frac) → IsWhole 41 (value f) → of_ℤ f.num ≡ value f
+whole_num f h = subst (λ (p : Fraction). of_ℤ p.num ≡ value f) (lowest-value f) (whole_is 41 (value f) h)
 
-pub num_below : (f : Frac) (x : ℚ) → value f ≡ x → IsWhole 41 x → unsigned_abs f.num < 2 ^ 41
-num_below f x e h = subst (λ (p : Fraction). unsigned_abs p.num < 2 ^ 41) (ap lowest (sym e) ∙ lowest-value f) h.small
+pub num_below : (f : Frac) → IsWhole 41 (value f) → unsigned_abs f.num < 2 ^ 41
+num_below f h = subst (λ (p : Fraction). unsigned_abs p.num < 2 ^ 41) (lowest-value f) h.small
 
--- products of two such numbers, and the differences of these
-pub product_small : (a b : ℤ) → unsigned_abs a < 2 ^ 41 → unsigned_abs b < 2 ^ 41 → unsigned_abs (a *ℤ b) < 2 ^ 82
-product_small a b h k = product_below 41 41 a b h k
-
+-- the difference of two products
 pub difference_small : (a b : ℤ) → unsigned_abs a < 2 ^ 82 → unsigned_abs b < 2 ^ 82 → unsigned_abs (a -ℤ b) < 2 ^ 83
 difference_small a b h k = omega (arith, ints)
 
 pub small_fits : (z : ℤ) → unsigned_abs z < 2 ^ 83 → SFits w128 z
 small_fits z h = omega (arith, ints)
 
--- the numerators' combination is that of the numbers
-pub combined_value : (at col : ℕ) (a t f b : ℤ) (x y : ℚ) → at ≢ col → of_ℤ a ≡ y → of_ℤ b ≡ x → of_ℤ (a *ℤ t -ℤ f *ℤ b) ≡ reduced_entry at col (of_ℤ f) x (y *ℚ of_ℤ t)
-combined_value at col a t f b x y ne ea eb =
-    of_ℤ-+ℤ (a *ℤ t) (neg_ℤ (f *ℤ b))
-    ∙ ap₂ ◌+ℚ◌ (of_ℤ-*ℤ a t ∙ ap (λ z. z *ℚ of_ℤ t) ea) (of_ℤ-neg_ℤ (f *ℤ b) ∙ ap neg_ℚ (of_ℤ-*ℤ f b ∙ ap (λ z. of_ℤ f *ℚ z) eb))
+none : (m : ℚ) → of_ℤ (pos 0) *ℚ m ≡ of_ℤ (pos 0)
+none m = ring (m ∷ []) (λ ρ p. simp (p, read_nat ρ, reads) (same_form _ _ _ refl))
+
+-- a product less another one
+pub combined_value : (at col : ℕ) (p q t f : ℤ) (x y : ℚ) → at ≢ col → of_ℤ p ≡ y *ℚ of_ℤ t → of_ℤ q ≡ x *ℚ of_ℤ f → of_ℤ (p -ℤ q) ≡ reduced_entry at col (of_ℤ f) x (y *ℚ of_ℤ t)
+combined_value at col p q t f x y ne ep eq =
+    of_ℤ-+ℤ p (neg_ℤ q)
+    ∙ ap₂ ◌+ℚ◌ ep (of_ℤ-neg_ℤ q ∙ ap neg_ℚ eq)
+    ∙ turned (y *ℚ of_ℤ t) x (of_ℤ f)
     ∙ sym (rw (ne_eqb at col ne) refl)
+  where
+    turned : (a x f : ℚ) → a -ℚ x *ℚ f ≡ a -ℚ f *ℚ x
+    turned a x f = ring (a ∷ x ∷ f ∷ []) (λ ρ p q r. simp (p, q, r, reads) (same_form _ _ _ refl))
 
 -- where the row has no number
-pub taken_value : (at col : ℕ) (t f b : ℤ) (x y : ℚ) → at ≢ col → y ≡ of_ℤ (pos 0) → of_ℤ b ≡ x → of_ℤ (pos 0 -ℤ f *ℤ b) ≡ reduced_entry at col (of_ℤ f) x (y *ℚ of_ℤ t)
-taken_value at col t f b x y ne ey eb = ap (λ z. of_ℤ (z -ℤ f *ℤ b)) (none t) ∙ combined_value at col (pos 0) t f b x y ne (sym ey) eb
-  where
-    none : (t : ℤ) → pos 0 ≡ pos 0 *ℤ t
-    none t = omega (arith, ints)
+pub taken_value : (at col : ℕ) (q t f : ℤ) (x y : ℚ) → at ≢ col → y ≡ of_ℤ (pos 0) → of_ℤ q ≡ x *ℚ of_ℤ f → of_ℤ (pos 0 -ℤ q) ≡ reduced_entry at col (of_ℤ f) x (y *ℚ of_ℤ t)
+taken_value at col q t f x y ne ey eq = combined_value at col (pos 0) q t f x y ne (sym (ap (λ z. z *ℚ of_ℤ t) ey ∙ none (of_ℤ t))) eq
 
 times_one : (x : ℚ) → x *ℚ of_ℤ (pos 1) ≡ x
 times_one x = ring (x ∷ []) (λ ρ p. simp (p, read_nat ρ, reads) (same_form _ _ _ refl))
 
 zero_times : (x m : ℚ) → is_zero x ≡ true → x *ℚ m ≡ of_ℤ (pos 0)
-zero_times x m e = ap (λ z. z *ℚ m) (eq_ℚ_true x (of_ℤ (pos 0)) e) ∙ plain m
-  where
-    plain : (m : ℚ) → of_ℤ (pos 0) *ℚ m ≡ of_ℤ (pos 0)
-    plain m = ring (m ∷ []) (λ ρ p. simp (p, read_nat ρ, reads) (same_form _ _ _ refl))
+zero_times x m e = ap (λ z. z *ℚ m) (eq_ℚ_true x (of_ℤ (pos 0)) e) ∙ none m
 
 pub once : (x : ℚ) (t : ℤ) → t ≡ pos 1 → x *ℚ of_ℤ t ≡ x
 once x t e = ap (λ z. x *ℚ of_ℤ z) e ∙ times_one x

@@ -53,9 +53,6 @@ no_fractions i le = refl
 pub fractions_more : (ds : List (Option Frac)) → AreFractions ds 0 → AreFractions (ds ++ None ∷ []) 0
 fractions_more ds h i le = fractions_append ds i (λ l. h l (omega arith))
 
-pub all_fractions : (xs : List Node) (ds : List (Option Frac)) (h : ℕ) → length ds ≡ h → AreFractions ds 0 → AreScaled xs ds h
-all_fractions xs ds h e f = record { long = e; rows = λ i. subst (λ o. IsScaled o (entry_at xs i)) (sym (f i (omega arith))) tt }
-
 pub scale-here : (ds : List (Option Frac)) (i : ℕ) (o : Option Frac) → i < length ds → scale_at (set ds i o) i ≡ o
 scale-here ds i o lt = scale-set ds i o i lt ∙ rw (eq-eqb i i refl) refl
 

@@ -40,7 +40,7 @@ pub record KeepsRows (old new : List Node) (i : ℕ) : Type 0 where
 
 -- ---- a row of whole numbers
 
--- row i's entries in columns n to m - 1 are multiplied; all other entries stay, and all nodes stay where they are
+-- row i's entries in columns n to m - 1 are multiplied; all other entries and the places of all nodes stay
 pub record IsMultiplied (old new : List Node) (i n m : ℕ) (times : ℚ) : Type 0 where
   pub here : (k : ℕ) → n ≤ k → k < m → entry_at new i k ≡ entry_at old i k *ℚ times
   pub before : (k : ℕ) → k < n → entry_at new i k ≡ entry_at old i k
@@ -50,10 +50,12 @@ pub record IsMultiplied (old new : List Node) (i n m : ℕ) (times : ℚ) : Type
 
 -- what column k of row i becomes where `factor` times row `pivot` is taken from `times` times row i
 abbrev pub combined_entry : List Node → ℕ → ℕ → ℕ → ℚ → ℚ → ℕ → ℚ
-combined_entry xs i pivot col times factor k = reduced_entry k col factor (entry_at xs pivot k) (entry_at xs i k *ℚ times)
+combined_entry xs i pivot col times factor k =
+    reduced_entry k col factor (entry_at xs pivot k) (entry_at xs i k *ℚ times)
 
 abbrev pub AreCombined : List Node → List Node → ℕ → ℕ → ℕ → ℚ → ℚ → ℕ → Type 0
-AreCombined old new i pivot col times factor n = (k : ℕ) → k < n → entry_at new i k ≡ combined_entry old i pivot col times factor k
+AreCombined old new i pivot col times factor n =
+    (k : ℕ) → k < n → entry_at new i k ≡ combined_entry old i pivot col times factor k
 
 -- ---- the pivot's row
 

@@ -89,7 +89,8 @@ impl Web {
         requires times { IsMultiplier times }
         requires whole { (k : ℕ) → done ≤ k → IsWhole 41 (entry_at (nodes_of self.old) row k) }
         ensures left { IsLast (rows_of self.new) row limit result.left }
-        ensures multiplied { IsMultiplied (nodes_of self.old) (nodes_of self.new) row done limit (of_ℤ times) }
+        ensures multiplied { IsMultiplied (nodes_of self.old) (nodes_of self.new) row done limit
+            (of_ℤ times) }
         ensures before { IsTrue result.small → IsTrue small }
         ensures small { IsTrue result.small → (k : ℕ) → done ≤ k → k < limit
             → IsWhole 41 (entry_at (nodes_of self.old) row k *ℚ of_ℤ times) }
@@ -123,7 +124,8 @@ impl Web {
         requires from { StandsBefore (rows_of self.old) row done from }
         requires times { IsMultiplier times }
         requires whole { (k : ℕ) → done ≤ k → IsWhole 41 (entry_at (nodes_of self.old) row k) }
-        ensures multiplied { IsMultiplied (nodes_of self.old) (nodes_of self.new) row done (width_of self.old) (of_ℤ times) }
+        ensures multiplied { IsMultiplied (nodes_of self.old) (nodes_of self.new) row done
+            (width_of self.old) (of_ℤ times) }
         ensures before { IsTrue result → IsTrue small }
         ensures small { IsTrue result → (k : ℕ) → done ≤ k → k < width_of self.old
             → IsWhole 41 (entry_at (nodes_of self.old) row k *ℚ of_ℤ times) }
@@ -141,11 +143,15 @@ impl Web {
     fn multiply(&mut self, node: usize, done: usize, times: i128, small: bool) -> bool
         requires node { is_live (nodes_of self.old) node ≡ true }
         requires times { IsMultiplier times }
-        requires whole { done ≤ col_at (nodes_of self.old) node → IsWhole 41 (item (nodes_of self.old) node) }
-        ensures done { col_at (nodes_of self.old) node < done → nodes_of self.new ≡ nodes_of self.old }
-        ensures entry { done ≤ col_at (nodes_of self.old) node → (i k : ℕ) → StandsAt (nodes_of self.old) node i k
-            → IsPut (nodes_of self.old) (nodes_of self.new) i k (item (nodes_of self.old) node *ℚ of_ℤ times) }
-        ensures stays { (n i k : ℕ) → StandsAt (nodes_of self.old) n i k → StandsAt (nodes_of self.new) n i k }
+        requires whole { done ≤ col_at (nodes_of self.old) node
+            → IsWhole 41 (item (nodes_of self.old) node) }
+        ensures done { col_at (nodes_of self.old) node < done
+            → nodes_of self.new ≡ nodes_of self.old }
+        ensures entry { done ≤ col_at (nodes_of self.old) node
+            → (i k : ℕ) → StandsAt (nodes_of self.old) node i k → IsPut (nodes_of self.old)
+            (nodes_of self.new) i k (item (nodes_of self.old) node *ℚ of_ℤ times) }
+        ensures stays { (n i k : ℕ) → StandsAt (nodes_of self.old) n i k
+            → StandsAt (nodes_of self.new) n i k }
         ensures before { IsTrue result → IsTrue small }
         ensures small { IsTrue result → done ≤ col_at (nodes_of self.old) node
             → IsWhole 41 (item (nodes_of self.old) node *ℚ of_ℤ times) }
@@ -157,9 +163,9 @@ impl Web {
         if self.nodes[node].col() < done {
             return small;
         }
-        let product = Frac::whole(self.nodes[node].value.num * times);
-        self.set(node, product);
-        stays_small(small, product)
+        let entry = Frac::whole(product(self.nodes[node].value, times));
+        self.set(node, entry);
+        stays_small(small, entry)
     }
 
     /// `times` times the number in a column of a row, whose node is `found`, less `factor` times what the pivot's row has there: `by`.
@@ -184,12 +190,22 @@ impl Web {
         if at == col {
             return Frac::whole(0);
         }
-        let taken = factor * by.num;
+        let taken = product(by, factor);
         match found {
-            Some(node) => Frac::whole(self.nodes[node].value.num * times - taken),
+            Some(node) => Frac::whole(product(self.nodes[node].value, times) - taken),
             None => Frac::whole(-taken),
         }
     }
+}
+
+/// A small whole number times another one.
+fn product(number: Frac, by: i128) -> i128
+    requires number { IsWhole 41 (value number) }
+    requires by { unsigned_abs by < 2 ^ 41 }
+    ensures value { of_ℤ result ≡ value number *ℚ of_ℤ by }
+    ensures small { unsigned_abs result < 2 ^ 82 }
+{
+    number.num * by
 }
 
 /// Whether numbers stay whole and small with one more.

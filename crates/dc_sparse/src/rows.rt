@@ -25,9 +25,10 @@ impl Web {
         requires other { pivot ≢ row }
         requires entry { is_zero (entry_at (nodes_of self.old) pivot col) ≡ false }
         requires spare { row_gaps (nodes_of self.old) row pivot (width_of self.old) ≤ self.old.spare }
-        ensures fits { result ≡ reductions_fit (nodes_of self.old) row pivot col (value factor) (width_of self.old) }
-        ensures reduced { IsTrue result
-            → AreReduced (nodes_of self.old) (nodes_of self.new) row pivot col (value factor) (width_of self.old) }
+        ensures fits { result
+            ≡ reductions_fit (nodes_of self.old) row pivot col (value factor) (width_of self.old) }
+        ensures reduced { IsTrue result → AreReduced (nodes_of self.old) (nodes_of self.new) row pivot
+            col (value factor) (width_of self.old) }
         ensures others { KeepsRows (nodes_of self.old) (nodes_of self.new) row }
         ensures spare { IsTrue result → self.old.spare
             ≤ self.new.spare + row_gaps (nodes_of self.old) row pivot (width_of self.old) }

@@ -1,7 +1,7 @@
-use Rattle.std.proofs.Common.{◌≡◌, ◌∙◌, SFits, pos, ◌*ℤ◌, arith, sym, subst, ap}
+use Rattle.std.proofs.Common.{◌≡◌, ◌∙◌, SFits, pos, arith, sym, subst, ap}
 use Rattle.std.proofs.lemmas.Int.{ints, to_z-of_z}
 use mir.Syntax.{w128}
-use Rattle.dc_math.specs.Rational.{of_ℤ, of_ℤ-*ℤ, ◌*ℚ◌}
+use Rattle.dc_math.specs.Rational.{of_ℤ, ◌*ℚ◌}
 use Rattle.dc_math.specs.Tests.{is_zero}
 use Rattle.dc_frac.specs.Value.{value}
 use Rattle.dc_sparse.specs.Nodes.{item, col_at}
@@ -11,7 +11,7 @@ use Rattle.dc_sparse.proofs.Cells.{item_live, item-read}
 use Rattle.dc_sparse.proofs.Links.{col-read}
 use Rattle.dc_sparse.proofs.Entries.{entry-node, item-live, put_same}
 use Rattle.dc_sparse.proofs.Wholes.{is_zero-*ℚ, whole_nonzero}
-use Rattle.dc_sparse.proofs.Multiples.{whole_num, num_below, product_small, small_fits, once}
+use Rattle.dc_sparse.proofs.Multiples.{small_fits, once}
 use Rattle.dc_sparse.proofs.web.Web.multiply.Goals as goal
 
 pub returns-then-times-eq1-clause-entry : goal.returns-then-times-eq1-clause-entry
@@ -58,53 +58,23 @@ index-requires-2 c =
     let l = item_live w.nodes.items c.args.node c.requires.node in
     omega (arith, w.nodes.ok.0)
 
-pub overflow_mul-index : goal.overflow_mul-index
-overflow_mul-index c =
+pub product-requires-clause-number : goal.product-requires-clause-number
+product-requires-clause-number c =
     let w = c.args.self.now in
     let l = item_live w.nodes.items c.args.node c.requires.node in
     let ek : c.col.result ≡ col_at w.nodes.items c.args.node = c.col.ensures ∙ col-read w.nodes.items c.args.node c.index.result.now l c.index.ensures in
-    let f = c.index-2.result.now.value in
-    let e : value f ≡ item w.nodes.items c.args.node = item-read w.nodes.items c.args.node c.index-2.result.now l c.index-2.ensures in
-    let whole = c.requires.whole (omega arith) in
-    let ea = whole_num f (item w.nodes.items c.args.node) e whole in
-    let la = num_below f (item w.nodes.items c.args.node) e whole in
-    let ft : SFits w128 c.args.times = c.ranges.times in
-    let fa : SFits w128 f.num = small_fits f.num (omega arith) in
-    let lm = product_small f.num c.args.times la c.requires.times.small in
-    let fm : SFits w128 (f.num *ℤ c.args.times) = small_fits (f.num *ℤ c.args.times) (omega arith) in
-    simp to_z-of_z fm
-
-pub whole-product-requires : goal.whole-product-requires
-whole-product-requires c =
-    let w = c.args.self.now in
-    let l = item_live w.nodes.items c.args.node c.requires.node in
-    let ek : c.col.result ≡ col_at w.nodes.items c.args.node = c.col.ensures ∙ col-read w.nodes.items c.args.node c.index.result.now l c.index.ensures in
-    let f = c.index-2.result.now.value in
-    let e : value f ≡ item w.nodes.items c.args.node = item-read w.nodes.items c.args.node c.index-2.result.now l c.index-2.ensures in
-    let whole = c.requires.whole (omega arith) in
-    let ea = whole_num f (item w.nodes.items c.args.node) e whole in
-    let la = num_below f (item w.nodes.items c.args.node) e whole in
-    let ft : SFits w128 c.args.times = c.ranges.times in
-    let fa : SFits w128 f.num = small_fits f.num (omega arith) in
-    let lm = product_small f.num c.args.times la c.requires.times.small in
-    let fm : SFits w128 (f.num *ℤ c.args.times) = small_fits (f.num *ℤ c.args.times) (omega arith) in
-    simp to_z-of_z (omega arith)
+    let e : value c.index-2.result.now.value ≡ item w.nodes.items c.args.node = item-read w.nodes.items c.args.node c.index-2.result.now l c.index-2.ensures in
+    subst (IsWhole 41) (sym e) (c.requires.whole (omega arith))
 
 pub set-requires-clause-nonzero : goal.set-requires-clause-nonzero
 set-requires-clause-nonzero c =
     let w = c.args.self.now in
     let l = item_live w.nodes.items c.args.node c.requires.node in
     let ek : c.col.result ≡ col_at w.nodes.items c.args.node = c.col.ensures ∙ col-read w.nodes.items c.args.node c.index.result.now l c.index.ensures in
-    let f = c.index-2.result.now.value in
-    let e : value f ≡ item w.nodes.items c.args.node = item-read w.nodes.items c.args.node c.index-2.result.now l c.index-2.ensures in
-    let whole = c.requires.whole (omega arith) in
-    let ea = whole_num f (item w.nodes.items c.args.node) e whole in
-    let la = num_below f (item w.nodes.items c.args.node) e whole in
+    let e : value c.index-2.result.now.value ≡ item w.nodes.items c.args.node = item-read w.nodes.items c.args.node c.index-2.result.now l c.index-2.ensures in
     let ft : SFits w128 c.args.times = c.ranges.times in
-    let fa : SFits w128 f.num = small_fits f.num (omega arith) in
-    let lm = product_small f.num c.args.times la c.requires.times.small in
-    let fm : SFits w128 (f.num *ℤ c.args.times) = small_fits (f.num *ℤ c.args.times) (omega arith) in
-    let v : value c.whole-product.result ≡ item w.nodes.items c.args.node *ℚ of_ℤ c.args.times = (let q : value c.whole-product.result ≡ of_ℤ (f.num *ℤ c.args.times) = (simp to_z-of_z at c.whole-product.ensures) in q ∙ of_ℤ-*ℤ f.num c.args.times ∙ ap (λ x. x *ℚ of_ℤ c.args.times) ea) in
+    let fp : SFits w128 c.product.result = small_fits c.product.result (let p = c.product.ensures.small in omega arith) in
+    let v : value c.whole-entry.result ≡ item w.nodes.items c.args.node *ℚ of_ℤ c.args.times = (let p : value c.whole-entry.result ≡ of_ℤ c.product.result = (simp to_z-of_z at c.whole-entry.ensures) in let q : of_ℤ c.product.result ≡ value c.index-2.result.now.value *ℚ of_ℤ c.args.times = (simp to_z-of_z at c.product.ensures.value) in p ∙ q ∙ ap (λ x. x *ℚ of_ℤ c.args.times) e) in
     ap is_zero v ∙ is_zero-*ℚ (item w.nodes.items c.args.node) (of_ℤ c.args.times) (whole_nonzero c.args.times c.requires.times.positive) ∙ item-live w.nodes.items c.args.node c.requires.node
 
 pub returns-clause-done : goal.returns-clause-done
@@ -119,16 +89,10 @@ returns-clause-entry c le i k s =
     let w = c.args.self.now in
     let l = item_live w.nodes.items c.args.node c.requires.node in
     let ek : c.col.result ≡ col_at w.nodes.items c.args.node = c.col.ensures ∙ col-read w.nodes.items c.args.node c.index.result.now l c.index.ensures in
-    let f = c.index-2.result.now.value in
-    let e : value f ≡ item w.nodes.items c.args.node = item-read w.nodes.items c.args.node c.index-2.result.now l c.index-2.ensures in
-    let whole = c.requires.whole (omega arith) in
-    let ea = whole_num f (item w.nodes.items c.args.node) e whole in
-    let la = num_below f (item w.nodes.items c.args.node) e whole in
+    let e : value c.index-2.result.now.value ≡ item w.nodes.items c.args.node = item-read w.nodes.items c.args.node c.index-2.result.now l c.index-2.ensures in
     let ft : SFits w128 c.args.times = c.ranges.times in
-    let fa : SFits w128 f.num = small_fits f.num (omega arith) in
-    let lm = product_small f.num c.args.times la c.requires.times.small in
-    let fm : SFits w128 (f.num *ℤ c.args.times) = small_fits (f.num *ℤ c.args.times) (omega arith) in
-    let v : value c.whole-product.result ≡ item w.nodes.items c.args.node *ℚ of_ℤ c.args.times = (let q : value c.whole-product.result ≡ of_ℤ (f.num *ℤ c.args.times) = (simp to_z-of_z at c.whole-product.ensures) in q ∙ of_ℤ-*ℤ f.num c.args.times ∙ ap (λ x. x *ℚ of_ℤ c.args.times) ea) in
+    let fp : SFits w128 c.product.result = small_fits c.product.result (let p = c.product.ensures.small in omega arith) in
+    let v : value c.whole-entry.result ≡ item w.nodes.items c.args.node *ℚ of_ℤ c.args.times = (let p : value c.whole-entry.result ≡ of_ℤ c.product.result = (simp to_z-of_z at c.whole-entry.ensures) in let q : of_ℤ c.product.result ≡ value c.index-2.result.now.value *ℚ of_ℤ c.args.times = (simp to_z-of_z at c.product.ensures.value) in p ∙ q ∙ ap (λ x. x *ℚ of_ℤ c.args.times) e) in
     subst (λ x. IsPut w.nodes.items c.set.new.self.nodes.items i k x) v (c.set.ensures.entry i k s)
 
 pub returns-clause-small : goal.returns-clause-small
@@ -136,14 +100,8 @@ returns-clause-small c t le =
     let w = c.args.self.now in
     let l = item_live w.nodes.items c.args.node c.requires.node in
     let ek : c.col.result ≡ col_at w.nodes.items c.args.node = c.col.ensures ∙ col-read w.nodes.items c.args.node c.index.result.now l c.index.ensures in
-    let f = c.index-2.result.now.value in
-    let e : value f ≡ item w.nodes.items c.args.node = item-read w.nodes.items c.args.node c.index-2.result.now l c.index-2.ensures in
-    let whole = c.requires.whole (omega arith) in
-    let ea = whole_num f (item w.nodes.items c.args.node) e whole in
-    let la = num_below f (item w.nodes.items c.args.node) e whole in
+    let e : value c.index-2.result.now.value ≡ item w.nodes.items c.args.node = item-read w.nodes.items c.args.node c.index-2.result.now l c.index-2.ensures in
     let ft : SFits w128 c.args.times = c.ranges.times in
-    let fa : SFits w128 f.num = small_fits f.num (omega arith) in
-    let lm = product_small f.num c.args.times la c.requires.times.small in
-    let fm : SFits w128 (f.num *ℤ c.args.times) = small_fits (f.num *ℤ c.args.times) (omega arith) in
-    let v : value c.whole-product.result ≡ item w.nodes.items c.args.node *ℚ of_ℤ c.args.times = (let q : value c.whole-product.result ≡ of_ℤ (f.num *ℤ c.args.times) = (simp to_z-of_z at c.whole-product.ensures) in q ∙ of_ℤ-*ℤ f.num c.args.times ∙ ap (λ x. x *ℚ of_ℤ c.args.times) ea) in
+    let fp : SFits w128 c.product.result = small_fits c.product.result (let p = c.product.ensures.small in omega arith) in
+    let v : value c.whole-entry.result ≡ item w.nodes.items c.args.node *ℚ of_ℤ c.args.times = (let p : value c.whole-entry.result ≡ of_ℤ c.product.result = (simp to_z-of_z at c.whole-entry.ensures) in let q : of_ℤ c.product.result ≡ value c.index-2.result.now.value *ℚ of_ℤ c.args.times = (simp to_z-of_z at c.product.ensures.value) in p ∙ q ∙ ap (λ x. x *ℚ of_ℤ c.args.times) e) in
     subst (IsWhole 41) v (c.stays_small.ensures.here t)
