@@ -92,7 +92,7 @@ module _ (t : Keeping) (lent : IsKeeping t) where
 
   -- ---- printed atoms
   pub atoms_at : (l : ℕ) → AllByRecursion (IsFullAtom n) (at l)
-  atoms_at l = each_at_or (AllByRecursion (IsFullAtom n)) t.printed.now l [] tt lent.atoms
+  atoms_at l = each_at_or (AllByRecursion (IsFullAtom n)) t.printed.now l [] lent.atoms tt
 
   pub full_at : (l : ℕ) (a : Atom) → Among a (at l) → IsFullAtom n a
   full_at l a m = each_among (IsFullAtom n) (atoms_at l) m
