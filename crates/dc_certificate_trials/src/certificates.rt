@@ -1,8 +1,9 @@
 //! Texts of certificates: what is read from them, and what is written again.
+ghost use Rattle.std.specs.Prelude.{IfOk};
 ghost use Rattle.dc_cert.specs.Ranges.{IsCertificate};
 ghost use Rattle.dc_cert.specs.Vectors.{IsVector};
 
-use dc_cert::{Body, Certificate, Claim, Sparse, sparse_of};
+use dc_cert::{Body, Certificate, Claim, Item, Liveness, Sparse, sparse_of};
 use dc_certtext::{
     ReadFault, WriteFault, read_cert, read_items, write_cert, write_claim, write_fraction,
     write_items,
@@ -354,6 +355,62 @@ fn parts_of_a_certificate(rt: HostRuntime) -> Result<(), Fail> {
     assert!(rt; unknown.as_slice() == b" 1:-1".as_slice());
     let lambda = write_items(alloc, ray_lambda)?;
     assert!(rt; lambda.as_slice() == b" 2:5".as_slice());
+    Ok(())
+}
+
+// The certificate with copies of both sides in their place.
+fn with_copies(alloc: Global, c: Certificate) -> Result<Certificate, AllocError>
+    requires { IsCertificate c }
+    ensures { IfOk result IsCertificate }
+{
+    let new_side = c.new_side.copy(alloc)?;
+    let old_side = c.old_side.copy(alloc)?;
+    let mut other = c;
+    other.new_side = new_side;
+    other.old_side = old_side;
+    Ok(other)
+}
+
+// Whether this is the one item of a vector: an index and a whole number.
+fn is_item(s: &Sparse, index: usize, value: i128) -> bool {
+    s.items.as_slice()
+        == [Item {
+            index,
+            value: Frac::whole(value),
+        }]
+        .as_slice()
+}
+
+// Copies are equal to what they copy: the sides by the text, lines and vectors by their items.
+#[test]
+fn copies_of_the_parts(rt: HostRuntime) -> Result<(), Fail> {
+    let alloc = rt.alloc();
+    let text = text_of(alloc, &TWO_CASES)?;
+    let c = read_cert(alloc, text.as_bytes())?;
+    let when = c.when.as_slice();
+    assert!(rt; when.len() == 2);
+    let Liveness::Live(point) = &when[0].copy(alloc)? else {
+        return Err(Fail::from("not live"));
+    };
+    let expected = [
+        Item {
+            index: 0,
+            value: Frac::whole(1),
+        },
+        Item {
+            index: 1,
+            value: Frac::new(-1, 2),
+        },
+    ];
+    assert!(rt; point.items.as_slice() == expected.as_slice());
+    let Liveness::Dead(shown) = &when[1].copy(alloc)? else {
+        return Err(Fail::from("not dead"));
+    };
+    assert!(rt; is_item(shown, 8191, -7));
+    assert!(rt; is_item(&shown.copy(alloc)?, 8191, -7));
+    let copied = with_copies(alloc, c)?;
+    let written = write_cert(alloc, &copied)?;
+    assert!(rt; written.as_slice() == text.as_bytes());
     Ok(())
 }
 

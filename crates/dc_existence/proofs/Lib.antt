@@ -4,8 +4,5 @@ pub mod Forms
 pub mod Wants
 pub mod Told
 pub mod Answered
-pub mod Steps
-pub mod Held
-pub mod Lines
 pub mod Named
 pub mod Spared

@@ -41,44 +41,10 @@ use Rattle.dc_printed.proofs.Deep.{few_shallow}
 use Rattle.dc_printed.proofs.Exprs as exprs
 use Rattle.dc_printed.proofs.Fewest.{need_proc, text_sized}
 use Rattle.dc_printed.proofs.Knowing.{know_stmts}
+use Rattle.dc_printed.proofs.RoundTrip.{past, finds_past, known_used, inner, unfold_open}
 use Rattle.dc_printed.proofs.Sources.{IsPrinted, printed, printed_by, different_before}
 
--- ---- used names
-
--- where a name has no place, it is put past the others
-abbrev past : List ℕ → List (List ℕ) → Token → ℕ
-past text ns t = unwrap_or (place_of ns (spelled text t)) (length ns)
-
-finds_past : (text : List ℕ) (ns : List (List ℕ)) → AreDifferent ns → exprs.Finds (past text ns) text ns
-finds_past text ns d i l t e =
-    let f : Some i ≡ place_of ns (get_or ns i []) = found ns (get_or ns i []) i l (different_before ns i d l) (bytes_same (get_or ns i [])) in
-    ap (λ n. unwrap_or (place_of ns n) (length ns)) e ∙ ap (λ o. unwrap_or o (length ns)) (sym f)
-
-known_used : (text : List ℕ) (ns : List (List ℕ)) (ts : List Token) → AllByRecursion (Known (length ns) (past text ns)) ts → used_fault text ns ts ≡ None
-known_used text ns [] h = refl
-known_used text ns (t ∷ ts) h = rw (one (is k.Name t.kind) refl) (known_used text ns ts h.1)
-  where
-    placed : (o : Option ℕ) → unwrap_or o (length ns) < length ns → missing o t.at ≡ None
-    placed None l = absurd (omega arith)
-    placed (Some i) l = refl
-
-    one : (b : Bool) → is k.Name t.kind ≡ b → (if b then missing (place_of ns (spelled text t)) t.at else None) ≡ None
-    one false e = refl
-    one true e = placed (place_of ns (spelled text t)) (h.0 (sym (same_kind k.Name t.kind e)))
-
--- the statements of a source, and their tokens
-record Inner (a : Tree Token) : Type 0 where
-  tokens : List Token
-  derived : Derives language (many (ref stmt)) tokens (parts_of a).body
-
-inner : {ts : List Token} {a : Tree Token} → Derives language (ref source) ts a → Inner a
-inner (name (both (token h1) (both (token h2) (both (token h3) (both dp (both (token h4) (both (token h5) (both dl (both ds (token h6)))))))))) = record { tokens = _; derived = ds }
-
 -- ---- depth
-
-unfold_open : (ts : List Token) → open_brackets ts ≡ fold brackets_with 0 ts
-unfolding open_brackets
-unfold_open ts = refl
 
 shallow : (p : Proc) → IsWritable p → all_limited p.body ≡ true → need_proc depth p.body ≤ 64 → (mine : IsPrinted p) → Shallow IsDeep mine.has.tokens (length mine.has.tokens)
 shallow p w few need mine =

@@ -1,5 +1,5 @@
 //! Tests of the language: tokens, sources, trees and their printed texts, conditions, systems, folded
-//! systems, and linear forms after an update.
+//! systems, two edges as one, and linear forms after an update.
 //!
 //! The crate has no function of its own. Each expected value was written by hand from
 //! `docs/language.md` and from the table of what each statement adds to a system.
@@ -7,6 +7,8 @@
 
 #[cfg(test)]
 mod after;
+#[cfg(test)]
+mod compositions;
 #[cfg(test)]
 mod conditions;
 #[cfg(test)]

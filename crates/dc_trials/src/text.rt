@@ -73,6 +73,17 @@ fn put_edge(out: &mut String, names: &[String], edge: &Edge) -> Result<(), Alloc
     out.push_str(if edge.any { ", any\n" } else { "\n" })
 }
 
+/// An edge as a text.
+pub(crate) fn edge_text(
+    alloc: Global,
+    names: &[String],
+    edge: &Edge,
+) -> Result<String, AllocError> {
+    let mut out = String::new(alloc);
+    put_edge(&mut out, names, edge)?;
+    Ok(out)
+}
+
 /// A system as a text: a line for its numbers, then one for each edge.
 pub(crate) fn system_text(
     alloc: Global,

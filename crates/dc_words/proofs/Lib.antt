@@ -7,3 +7,7 @@ pub mod Walks
 pub mod Faults
 pub mod Independent
 pub mod Unique
+pub mod Steps
+pub mod Held
+pub mod Lines
+pub mod Found

@@ -1,5 +1,5 @@
 -- Which words have a reading, and what they ask for.
-use Rattle.std.specs.Prelude.{◌≡◌, ◌≤◌, ◌⊎◌, ℕ, Bool, true, false, List, [], ◌∷◌, Option, Some, None, option_map, slice_get, codes, if◌then◌else◌}
+use Rattle.std.specs.Prelude.{◌≡◌, ◌↔◌, ◌≤◌, ◌⊎◌, ℕ, Bool, true, false, List, [], ◌∷◌, Option, Some, None, option_map, slice_get, codes, if◌then◌else◌}
 use Rattle.std.specs.String.{string_bytes}
 use Rattle.std.specs.Str.{bytes_eq}
 use Rattle.std.specs.Option.{option_map_or}
@@ -108,3 +108,7 @@ IsReading words read = IsLine (codes "analyse") analyse IsAnalyse words read
 -- the words have one reading at most
 abbrev pub HaveOneReading : List Text → Type 0
 HaveOneReading words = (a b : Reading) → IsReading words a → IsReading words b → a ≡ b
+
+-- the words have a reading exactly where a command takes them
+abbrev pub HaveSomeReading : List Text → Type 0
+HaveSomeReading words = takes_words words ≡ true ↔ (read : Reading) × IsReading words read

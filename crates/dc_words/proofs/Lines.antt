@@ -17,8 +17,8 @@ use Rattle.dc_words.specs.Rules.{has_distinct_ids}
 use Rattle.dc_words.specs.Taken.{number_of}
 use Rattle.dc_words.specs.Reading.{IsNumberIn}
 use Rattle.dc_words.proofs.Numbers.{signed_range, unsigned_range}
-use Rattle.dc_existence.proofs.Steps.{first_none, then_none, settled_good, walk_good}
-use Rattle.dc_existence.proofs.Held.{IsRow, Good, found_row, IsIn, IsPlain, each_keeps, defaults_good, default_there, required_there}
+use Rattle.dc_words.proofs.Steps.{first_none, then_none, settled_good, walk_good}
+use Rattle.dc_words.proofs.Held.{IsRow, Good, found_row, IsIn, IsPlain, each_keeps, defaults_good, default_there, required_there}
 
 -- ---- no two arguments have one id
 abbrev IsOnly : Rule → Rule → Type 0

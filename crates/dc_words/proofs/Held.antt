@@ -17,7 +17,7 @@ use Rattle.clap.specs.declared.builder.action.ArgAction.TheVariants.{Set, Help}
 use Rattle.clap.specs.declared.builder.value_parser.ValueParser.{ValueParser}
 use Rattle.clap.specs.declared.parser.matches.ValueSource.{ValueSource}
 use Rattle.clap.specs.declared.parser.matches.ValueSource.TheVariants.{DefaultValue, CommandLine}
-use Rattle.dc_existence.proofs.Steps.{first_none, then_none, Keeps, EachKeeps}
+use Rattle.dc_words.proofs.Steps.{first_none, then_none, Keeps, EachKeeps}
 
 -- a value that was accepted stands first
 pub record IsRow (a : Rule) (r : Row) : Type 0 where
