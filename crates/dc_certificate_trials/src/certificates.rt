@@ -373,12 +373,10 @@ fn with_copies(alloc: Global, c: Certificate) -> Result<Certificate, AllocError>
 
 // Whether this is the one item of a vector: an index and a whole number.
 fn is_item(s: &Sparse, index: usize, value: i128) -> bool {
-    s.items.as_slice()
-        == [Item {
-            index,
-            value: Frac::whole(value),
-        }]
-        .as_slice()
+    match s.items.as_slice() {
+        [item] => item.index == index && item.value.num == value && item.value.den == 1,
+        _ => false,
+    }
 }
 
 // Copies are equal to what they copy: the sides by the text, lines and vectors by their items.

@@ -92,7 +92,7 @@ module _ (version : Side) (s : System) (formed : IsWellFormed s) (cases : List (
   at l = printed_at g printed l
 
   atoms_at : (l : ℕ) → AllByRecursion (IsFullAtom n) (at l)
-  atoms_at l = each_at_or (AllByRecursion (IsFullAtom n)) printed l [] tt atoms
+  atoms_at l = each_at_or (AllByRecursion (IsFullAtom n)) printed l [] atoms tt
 
   full_at : (l : ℕ) (a : Atom) → Among a (at l) → IsFullAtom n a
   full_at l a m = each_among (IsFullAtom n) (atoms_at l) m
