@@ -1,54 +1,46 @@
 -- How the number of sets grows.
-use Rattle.std.proofs.Common.{◌≡◌, ℕ, zero, suc, ◌+◌, ◌*◌, ◌/◌, ◌≤◌, refl, sym, ◌∙◌, ap, subst, arith, inl, inr}
-use Rattle.std.proofs.Math.Nat.{mul_comm, mul-add, suc-mul, div-eq_of_eq-mul_right}
+use Rattle.std.proofs.Common.{◌≡◌, ℕ, zero, suc, ◌+◌, ◌-◌, ◌*◌, ◌/◌, ◌≤◌, refl, sym, ◌∙◌, ap, subst, arith, inl, inr}
 use Rattle.std.proofs.lemmas.Bool.{cases_eq}
+use Rattle.dc_math.specs.Pascal.{IsPascal, next}
 use Rattle.dc_pivots.specs.FieldLaws.{choose}
 use Rattle.dc_pivots.proofs.Count.{choose-none, choose-more}
 
-choose-empty : (k : ℕ) → choose zero (suc k) ≡ 0
-unfolding choose
-choose-empty k = refl
-
-absorb-step : (a b p q u v : ℕ) → p ≡ u + v → suc (suc b) * q ≡ suc a * v → suc b * p ≡ suc a * u → suc (suc b) * (p + q) ≡ suc (suc a) * p
-absorb-step a b p q u v e f g =
-    mul-add (suc (suc b)) p q
-    ∙ ap (λ x. x + suc (suc b) * q) (suc-mul (suc b) p)
-    ∙ ap (λ x. (suc b * p + p) + x) f
-    ∙ ap (λ x. (x + p) + suc a * v) g
-    ∙ sum-order (suc a * u) p (suc a * v)
-    ∙ ap (λ x. x + p) (sym (mul-add (suc a) u v) ∙ ap (λ x. suc a * x) (sym e))
-    ∙ sym (suc-mul (suc a) p)
+choose-past : (n k : ℕ) → choose n (suc (n + k)) ≡ 0
+choose-past zero k = none k
   where
-    sum-order : (x y z : ℕ) → (x + y) + z ≡ (x + z) + y
-    sum-order x y z = omega arith
+    none : (k : ℕ) → choose zero (suc k) ≡ 0
+    unfolding choose
+    none k = refl
+choose-past (suc n) k =
+    let a : choose n (suc (n + k)) ≡ 0 = choose-past n k in
+    let b : choose n (suc (suc (n + k))) ≡ 0 = ap (λ i. choose n (suc i)) (let q : suc (n + k) ≡ n + suc k = omega arith in q) ∙ choose-past n (suc k) in
+    let c : choose (suc n) (suc (suc n + k)) ≡ choose n (suc (n + k)) + choose n (suc (suc (n + k))) = choose-more n (suc (n + k)) in
+    omega arith
 
--- (b + 1) C(a + 1, b + 1) = (a + 1) C(a, b)
-pub absorb : (a b : ℕ) → suc b * choose (suc a) (suc b) ≡ suc a * choose a b
-absorb zero zero = (let c : choose 1 1 ≡ choose 0 0 + choose 0 1 = choose-more 0 0 in let d : choose 0 0 ≡ 1 = choose-none 0 in let e : choose 0 1 ≡ 0 = choose-empty 0 in omega arith)
-absorb zero (suc b) =
-    let c : choose 1 (suc (suc b)) ≡ choose 0 (suc b) + choose 0 (suc (suc b)) = choose-more 0 (suc b) in
-    let d : choose 0 (suc b) ≡ 0 = choose-empty b in
-    let e : choose 0 (suc (suc b)) ≡ 0 = choose-empty (suc b) in
-    let z : choose 1 (suc (suc b)) ≡ 0 = omega arith in
-    rw (z, d) (omega arith)
-absorb (suc a) zero =
-    let ih : 1 * choose (suc a) 1 ≡ suc a * choose a 0 = absorb a 0 in
-    let c : choose (suc (suc a)) 1 ≡ choose (suc a) 0 + choose (suc a) 1 = choose-more (suc a) 0 in
-    let d : choose (suc a) 0 ≡ 1 = choose-none (suc a) in
-    let e : choose a 0 ≡ 1 = choose-none a in
-    let f : 1 * choose (suc a) 1 ≡ suc a * 1 = ih ∙ ap (λ x. suc a * x) e in
-    rw d (omega arith)
-absorb (suc a) (suc b) =
-    ap (λ x. suc (suc b) * x) (choose-more (suc a) (suc b))
-    ∙ absorb-step a b (choose (suc a) (suc b)) (choose (suc a) (suc (suc b))) (choose a b) (choose a (suc b)) (choose-more a b) (absorb a (suc b)) (absorb a b)
+choose-all : (n : ℕ) → choose n n ≡ 1
+choose-all zero = choose-none zero
+choose-all (suc n) =
+    let a : choose n n ≡ 1 = choose-all n in
+    let b : choose n (suc n) ≡ 0 = ap (λ i. choose n (suc i)) (let q : n ≡ n + 0 = omega arith in q) ∙ choose-past n 0 in
+    let c : choose (suc n) (suc n) ≡ choose n n + choose n (suc n) = choose-more n n in
+    omega arith
+
+-- the sets of k of n + k things obey Pascal's rule
+choose-pascal : IsPascal (λ n k. choose (n + k) k)
+choose-pascal = record {
+  none = λ k. choose-all k;
+  empty = λ n. choose-none (n + 0);
+  rule = λ n k. choose-more (n + suc k) k ∙ ap (λ i. choose i k + choose (n + suc k) (suc k)) (let q : n + suc k ≡ suc n + k = omega arith in q);
+}
 
 -- the next number, by one product and one quotient
 pub choose-next : (c i : ℕ) → choose (c + i) i * (c + i + 1) / (i + 1) ≡ choose (c + i + 1) (i + 1)
 choose-next c i =
-    let e : suc i * choose (suc (c + i)) (suc i) ≡ suc (c + i) * choose (c + i) i = absorb (c + i) i in
-    let s : suc (c + i) ≡ c + i + 1 = omega arith in
-    let t : suc i ≡ i + 1 = omega arith in
-    div-eq_of_eq-mul_right (omega arith) (mul_comm (choose (c + i) i) (c + i + 1) ∙ sym (subst (λ x. (i + 1) * choose x (i + 1) ≡ x * choose (c + i) i) s (subst (λ x. x * choose (suc (c + i)) x ≡ suc (c + i) * choose (c + i) i) t e)))
+    let s : c + i + 1 ≡ c + (i + 1) = omega arith in
+    let r : i ≡ i + 1 - 1 = omega arith in
+    ap (λ x. choose (c + i) i * x / (i + 1)) s
+    ∙ next (λ n k. choose (n + k) k) choose-pascal c (i + 1) (choose (c + i) i) (omega arith) (ap (λ k. choose (c + k) k) r)
+    ∙ ap (λ x. choose x (i + 1)) (sym s)
 
 choose-rises : (c i : ℕ) → choose (c + i) i ≤ choose (c + suc i) (suc i)
 choose-rises c i =

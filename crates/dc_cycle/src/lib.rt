@@ -3,8 +3,7 @@
 #![tactic(auto)]
 
 ghost use Rattle.std.specs.Prelude.{◌≡◌, ◌+◌, ◌<◌, ◌≤◌, ◌^◌, IfOk, SomeIff};
-ghost use Rattle.dc_lp.specs.Problems.{IsWellFormed, linear_of};
-ghost use Rattle.dc_lp.specs.Verdicts.{columns};
+ghost use Rattle.dc_lp.specs.Problems.{IsWellFormed, linear_of, columns};
 ghost use Rattle.dc_pivots.specs.FieldLaws.{choose};
 ghost use Rattle.dc_simplex.specs.Outcomes.{Shows, UsesOneOfOpposites};
 ghost use Rattle.dc_cycle.specs.Ended.{SolvesToEnd, TellsEnds, TellsPast};

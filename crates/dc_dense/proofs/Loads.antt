@@ -13,12 +13,12 @@ use Rattle.dc_math.specs.Tests.{le_ℚ-true, le_ℚ-false}
 use Rattle.dc_frac.specs.declared.Frac.{Frac}
 use Rattle.dc_frac.specs.Value.{value}
 use Rattle.dc_lp.specs.declared.Problem.{Problem}
-use Rattle.dc_lp.specs.Problems.{coefficient, whole_at, linear_of}
+use Rattle.dc_lp.specs.Problems.{coefficient, whole_at, linear_of, columns}
 use Rattle.dc_lp.specs.Tables as tables
 use Rattle.dc_lp.specs.Tables.{made}
 use Rattle.dc_lp.specs.Meanings.{Meaning, resting, start}
 use Rattle.dc_dense.specs.Flat.{item, flat}
-use Rattle.dc_start.specs.Starts.{columns, width, start_value}
+use Rattle.dc_start.specs.Starts.{width, start_value}
 use Rattle.dc_dense.specs.Rows.{HasRows}
 use Rattle.dc_dense.proofs.Places.{place_below}
 use Rattle.dc_dense.proofs.Links.{made-same}

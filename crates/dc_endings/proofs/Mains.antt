@@ -39,14 +39,15 @@ use Rattle.dc_claims.proofs.Fits.{is_edge, atoms_fit, few_places}
 use Rattle.dc_table.specs.Tables.{part_weight}
 use Rattle.dc_table.proofs.Weights.{coefficients_light}
 use Rattle.dc_match.proofs.Counting.{duties_there, duties_few}
-use Rattle.dc_endings.proofs.Starts.{tally, IsLight}
-use Rattle.dc_endings.proofs.Weights.{tally_small, tally_first}
+use Rattle.dc_lp.proofs.Tallies.{tally-first}
+use Rattle.dc_endings.proofs.Starts.{sizes, IsLight}
+use Rattle.dc_endings.proofs.Weights.{sizes_small}
 
 -- ---- sums of sizes
-tally_get : {A : Type 0} (h : Option A → ℤ) (xs : List A) → tally (λ i. h (slice_get xs i)) (length xs) ≡ sum_by (λ x. unsigned_abs (h (Some x))) xs
-tally_get h [] = refl
-tally_get h (x ∷ xs) =
-    tally_first (λ i. h (slice_get (x ∷ xs) i)) (length xs) ∙ ap (λ n. unsigned_abs (h (Some x)) + n) (tally_get h xs)
+sizes_get : {A : Type 0} (h : Option A → ℤ) (xs : List A) → sizes (λ i. h (slice_get xs i)) (length xs) ≡ sum_by (λ x. unsigned_abs (h (Some x))) xs
+sizes_get h [] = refl
+sizes_get h (x ∷ xs) =
+    tally-first (λ i. unsigned_abs (h (slice_get (x ∷ xs) i))) (length xs) ∙ ap (λ n. unsigned_abs (h (Some x)) + n) (sizes_get h xs)
     ∙ sym (sum_by-cons (λ y. unsigned_abs (h (Some y))) x xs)
 
 sum_mapped : {A B : Type 0} (e : B → A) (v : A → ℤ) (ms : List B) → sum_by (λ q. unsigned_abs (v q)) (map e ms) ≡ sum_by unsigned_abs (map (λ m. v (e m)) ms)
@@ -226,15 +227,15 @@ module _ (p : Pair) (d k : ℕ) (f : Flags) (fit : IsFit p d k f) where
   abbrev equations : List Equation
   equations = equations_of p d k f
 
-  column_small : (o : Option Column) → ((c : Column) → o ≡ Some c → Known c) → tally (λ i. entry_or_zero p d k (slice_get equations i) o) (length equations) < 2 ^ 127
+  column_small : (o : Option Column) → ((c : Column) → o ≡ Some c → Known c) → sizes (λ i. entry_or_zero p d k (slice_get equations i) o) (length equations) < 2 ^ 127
   column_small None g =
-      let a = tally_small (λ i. entry_or_zero p d k (slice_get equations i) None) 0 (length equations) (λ i. none (slice_get equations i)) in omega arith
+      let a = sizes_small (λ i. entry_or_zero p d k (slice_get equations i) None) 0 (length equations) (λ i. none (slice_get equations i)) in omega arith
     where
       none : (q : Option Equation) → unsigned_abs (entry_or_zero p d k q None) ≤ 0
       none None = omega arith
       none (Some q) = omega arith
   column_small (Some c) g =
-      let a = tally_get (λ q. entry_or_zero p d k q (Some c)) equations in
+      let a = sizes_get (λ q. entry_or_zero p d k q (Some c)) equations in
       let b = small (λ q. entry_of p d k q c) (λ o h. in_duty o h c (g c refl)) in
       omega arith
 
@@ -249,6 +250,6 @@ module _ (p : Pair) (d k : ℕ) (f : Flags) (fit : IsFit p d k f) where
   pub main_light : IsLight (main_problem p d k f)
   main_light = record {
     columns = λ j l. column_small (slice_get (columns_of p d k f) j) (λ c e. get_each Known (columns_of p d k f) known j c e);
-    right_side = let a = tally_get (right_or_zero p d k) equations in let b = small (right_of p d k) right_in_duty in omega arith;
+    right_side = let a = sizes_get (right_or_zero p d k) equations in let b = small (right_of p d k) right_in_duty in omega arith;
     costs = λ j l. cost_small (slice_get (columns_of p d k f) j);
   }

@@ -9,6 +9,7 @@ use Rattle.dc_math.specs.RationalField.{rationals}
 use Rattle.dc_math.specs.Order.{of_ℤ-neg_ℤ}
 use Rattle.dc_frac.specs.Fits.{IsSmall}
 use Rattle.dc_lp.specs.Linear.{Linear}
+use Rattle.dc_lp.proofs.Tallies.{tally, tally-term, hit, once-from, tally-hit}
 use Rattle.dc_lp.specs.Tables as tables
 use Rattle.dc_lp.specs.Tables.{Table, made}
 use Rattle.dc_lp.specs.Meanings.{all_below, at}
@@ -20,14 +21,13 @@ use Rattle.dc_endings.proofs.Numbers.{IsNumber, zero_number, whole_number}
 
 -- ---- problems
 -- the sum of the sizes of f 0 to f (n - 1)
-abbrev pub tally : (ℕ → ℤ) → ℕ → ℕ
-tally f zero = 0
-tally f (suc n) = tally f n + unsigned_abs (f n)
+abbrev pub sizes : (ℕ → ℤ) → ℕ → ℕ
+sizes f n = tally (λ i. unsigned_abs (f i)) n
 
 -- each column's sizes add up to at most 2^127 - 1, and so do those of the right side; each cost is as small
 pub record IsLight (m : Linear ℤ) : Type 0 where
-  pub columns : (j : ℕ) → j < m.columns → tally (λ i. m.coefficient i j) m.equations < 2 ^ 127
-  pub right_side : tally m.right_side m.equations < 2 ^ 127
+  pub columns : (j : ℕ) → j < m.columns → sizes (λ i. m.coefficient i j) m.equations < 2 ^ 127
+  pub right_side : sizes m.right_side m.equations < 2 ^ 127
   pub costs : (j : ℕ) → j < m.columns → IsSmall (m.cost j)
 
 -- ---- lists
@@ -92,43 +92,6 @@ sized_sum x y b c h k = record {
 whole_sized : (z : ℤ) → IsSized (of_ℤ z) (unsigned_abs z)
 whole_sized z = record { number = z; is = refl; size = omega arith }
 
--- ---- sums of sizes
-abbrev total : (ℕ → ℕ) → ℕ → ℕ
-total f zero = 0
-total f (suc n) = total f n + f n
-
-total_tally : (f : ℕ → ℤ) (n : ℕ) → total (λ i. unsigned_abs (f i)) n ≡ tally f n
-total_tally f zero = refl
-total_tally f (suc n) = ap (λ k. k + unsigned_abs (f n)) (total_tally f n)
-
-total_part : (f : ℕ → ℕ) (n i : ℕ) → i < n → f i ≤ total f n
-total_part f zero i l = absurd (omega arith)
-total_part f (suc n) i l = by (cases_lt i n) (λ g. total_part f n i g)
-  where
-    by : (i < n) ⊎ (n ≤ i) → (i < n → f i ≤ total f n) → f i ≤ total f n + f n
-    by (inl g) r = let a = r g in omega arith
-    by (inr g) r = let q : f i ≡ f n = ap f (let e : i ≡ n = omega arith in e) in omega arith
-
--- one at the place k - c, and 0 elsewhere
-abbrev hit : (k c i : ℕ) → ℕ
-hit k c i = cond (k == c + i) 1 0
-
-hit_none : (k c n : ℕ) → c + n ≤ k → total (hit k c) n ≡ 0
-hit_none k c zero l = refl
-hit_none k c (suc n) l = by (k == c + n) refl (hit_none k c n (omega arith))
-  where
-    by : (b : Bool) → (k == c + n) ≡ b → total (hit k c) n ≡ 0 → total (hit k c) n + cond b 1 0 ≡ 0
-    by true e r = absurd (let q : k ≡ c + n = eqb-true k (c + n) e in omega arith)
-    by false e r = omega arith
-
-hit_once : (k c n : ℕ) → total (hit k c) n ≤ 1
-hit_once k c zero = omega arith
-hit_once k c (suc n) = by (k == c + n) refl (hit_once k c n)
-  where
-    by : (b : Bool) → (k == c + n) ≡ b → total (hit k c) n ≤ 1 → total (hit k c) n + cond b 1 0 ≤ 1
-    by true e r = let q : k ≡ c + n = eqb-true k (c + n) e in let z = hit_none k c n (omega arith) in omega arith
-    by false e r = omega arith
-
 -- ---- the start
 module _ (m : Linear ℤ) (light : IsLight m) where
   abbrev p : Linear ℚ
@@ -143,7 +106,7 @@ module _ (m : Linear ℤ) (light : IsLight m) where
 
   -- how large an entry is at most
   abbrev entry_size : ℕ → ℕ → ℕ
-  entry_size k i = cond (nat_lt k m.columns) (unsigned_abs (m.coefficient i k)) (cond (nat_lt k (m.columns + m.equations)) (hit k m.columns i) (unsigned_abs (m.right_side i)))
+  entry_size k i = cond (nat_lt k m.columns) (unsigned_abs (m.coefficient i k)) (cond (nat_lt k (m.columns + m.equations)) (hit (λ a. k == m.columns + a) 1 i) (unsigned_abs (m.right_side i)))
 
   entry_sized : (i k : ℕ) → IsSized (tables.start_entry ℚ rationals p i k) (entry_size k i)
   unfolding tables.start_entry
@@ -157,21 +120,21 @@ module _ (m : Linear ℤ) (light : IsLight m) where
       by false true false = whole_sized (pos 0)
       by false false d = signed_sized i (p.right_side i) (unsigned_abs (m.right_side i)) (whole_sized (m.right_side i))
 
-  sums_sized : (k n : ℕ) → IsSized (tables.minus_sum ℚ rationals p k n) (total (entry_size k) n)
+  sums_sized : (k n : ℕ) → IsSized (tables.minus_sum ℚ rationals p k n) (tally (entry_size k) n)
   unfolding tables.minus_sum
   sums_sized k zero = whole_sized (pos 0)
   sums_sized k (suc n) =
-      sized_sum (tables.minus_sum ℚ rationals p k n) (neg_ℚ (tables.start_entry ℚ rationals p n k)) (total (entry_size k) n) (entry_size k n) (sums_sized k n)
+      sized_sum (tables.minus_sum ℚ rationals p k n) (neg_ℚ (tables.start_entry ℚ rationals p n k)) (tally (entry_size k) n) (entry_size k n) (sums_sized k n)
       (sized_neg (tables.start_entry ℚ rationals p n k) (entry_size k n) (entry_sized n k))
 
-  total_small : (k : ℕ) → total (entry_size k) m.equations < 2 ^ 127
+  total_small : (k : ℕ) → tally (entry_size k) m.equations < 2 ^ 127
   total_small k = by (nat_lt k m.columns) (nat_lt k (m.columns + m.equations)) refl
     where
       by : (b c : Bool) → nat_lt k m.columns ≡ b
-          → total (λ i. cond b (unsigned_abs (m.coefficient i k)) (cond c (hit k m.columns i) (unsigned_abs (m.right_side i)))) m.equations < 2 ^ 127
-      by true c e = let a = total_tally (λ i. m.coefficient i k) m.equations in let l = light.columns k (ltb-true k m.columns e) in omega arith
-      by false true e = let a = hit_once k m.columns m.equations in omega arith
-      by false false e = let a = total_tally m.right_side m.equations in let l = light.right_side in omega arith
+          → tally (λ i. cond b (unsigned_abs (m.coefficient i k)) (cond c (hit (λ a. k == m.columns + a) 1 i) (unsigned_abs (m.right_side i)))) m.equations < 2 ^ 127
+      by true c e = light.columns k (ltb-true k m.columns e)
+      by false true e = let a = tally-hit (λ i. k == m.columns + i) 1 m.equations (once-from k m.columns) in omega arith
+      by false false e = light.right_side
 
   value_number : (i k : ℕ) → IsNumber (tables.start_value ℚ rationals p i k)
   unfolding tables.start_value
@@ -181,8 +144,8 @@ module _ (m : Linear ℤ) (light : IsLight m) where
           → IsNumber (if b then tables.start_entry ℚ rationals p i k else if c then tables.minus_sum ℚ rationals p k p.equations else if d then p.cost k else of_ℤ (pos 0))
       by true c d e g =
           sized_number (tables.start_entry ℚ rationals p i k) (entry_size k i) (entry_sized i k)
-          (let a = total_part (entry_size k) m.equations i (ltb-true i m.equations e) in let s = total_small k in omega arith)
-      by false true d e g = sized_number (tables.minus_sum ℚ rationals p k m.equations) (total (entry_size k) m.equations) (sums_sized k m.equations) (total_small k)
+          (let a = tally-term (entry_size k) m.equations i (ltb-true i m.equations e) in let s = total_small k in omega arith)
+      by false true d e g = sized_number (tables.minus_sum ℚ rationals p k m.equations) (tally (entry_size k) m.equations) (sums_sized k m.equations) (total_small k)
       by false false true e g = whole_number (m.cost k) (light.costs k (ltb-true k m.columns g))
       by false false false e g = zero_number
 

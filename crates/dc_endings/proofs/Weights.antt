@@ -7,23 +7,20 @@ use Rattle.dc_affine.specs.declared.atom.Atom.{Atom}
 use Rattle.dc_affine.specs.Atoms.{IsAtom, AllFit}
 use Rattle.dc_lp.specs.Problems.{whole_at}
 use Rattle.dc_points.specs.Stated.{atom_number, coefficient_of, place_entry, empty_problem, sup_problem}
-use Rattle.dc_endings.proofs.Starts.{tally, IsLight}
+use Rattle.dc_lp.proofs.Tallies.{tally-first}
+use Rattle.dc_endings.proofs.Starts.{sizes, IsLight}
 
 -- ---- sums of sizes
-pub tally_small : (f : ℕ → ℤ) (b n : ℕ) → ((i : ℕ) → unsigned_abs (f i) ≤ b) → tally f n ≤ n * b
-tally_small f b zero h = omega arith
-tally_small f b (suc n) h = more (tally f n) (unsigned_abs (f n)) (tally_small f b n h) (h n)
+pub sizes_small : (f : ℕ → ℤ) (b n : ℕ) → ((i : ℕ) → unsigned_abs (f i) ≤ b) → sizes f n ≤ n * b
+sizes_small f b zero h = omega arith
+sizes_small f b (suc n) h = more (sizes f n) (unsigned_abs (f n)) (sizes_small f b n h) (h n)
   where
     more : (x y : ℕ) → x ≤ n * b → y ≤ b → x + y ≤ suc n * b
     more x y l g = grind arith
 
-pub tally_first : (f : ℕ → ℤ) (n : ℕ) → tally f (suc n) ≡ unsigned_abs (f 0) + tally (λ i. f (suc i)) n
-tally_first f zero = omega arith
-tally_first f (suc n) = let e = tally_first f n in omega arith
-
-pub tally_listed : (xs : List ℤ) → tally (whole_at xs) (length xs) ≡ sum_by unsigned_abs xs
-tally_listed [] = refl
-tally_listed (x ∷ xs) = tally_first (whole_at (x ∷ xs)) (length xs) ∙ ap (λ n. unsigned_abs x + n) (tally_listed xs) ∙ sym (sum_by-cons unsigned_abs x xs)
+pub sizes_listed : (xs : List ℤ) → sizes (whole_at xs) (length xs) ≡ sum_by unsigned_abs xs
+sizes_listed [] = refl
+sizes_listed (x ∷ xs) = tally-first (λ i. unsigned_abs (whole_at (x ∷ xs) i)) (length xs) ∙ ap (λ n. unsigned_abs x + n) (sizes_listed xs) ∙ sym (sum_by-cons unsigned_abs x xs)
 
 -- ---- the numbers of atoms
 whole_small : (xs : List ℤ) (i : ℕ) → AllFit xs → unsigned_abs (whole_at xs i) ≤ 2147483648
@@ -65,14 +62,14 @@ module _ (k : ℕ) (hyps : List Atom) (atoms : AllByRecursion (IsAtom k) hyps) w
   -- ---- the problems
   pub empty_light : (n : ℕ) → n ≤ 1024 → IsLight (empty_problem hyps n)
   empty_light n l = record {
-    columns = λ j g. let t = tally_small (λ i. (empty_problem hyps n).coefficient i j) 2147483648 (suc n) (λ i. column_small n i j) in omega arith;
-    right_side = let t = tally_small (empty_problem hyps n).right_side 1 (suc n) (λ i. right_small n i) in omega arith;
+    columns = λ j g. let t = sizes_small (λ i. (empty_problem hyps n).coefficient i j) 2147483648 (suc n) (λ i. column_small n i j) in omega arith;
+    right_side = let t = sizes_small (empty_problem hyps n).right_side 1 (suc n) (λ i. right_small n i) in omega arith;
     costs = λ j g. omega arith;
   }
 
   pub sup_light : (form : List ℤ) → length form ≤ 1024 → sum_by unsigned_abs form < 2 ^ 70 → IsLight (sup_problem hyps form)
   sup_light form l w = record {
-    columns = λ j g. let t = tally_small (λ i. place_entry (length form) hyps i j) 2147483648 (length form) (λ i. place_small (length form) i j) in omega arith;
-    right_side = let t = tally_listed form in omega arith;
+    columns = λ j g. let t = sizes_small (λ i. place_entry (length form) hyps i j) 2147483648 (length form) (λ i. place_small (length form) i j) in omega arith;
+    right_side = let t = sizes_listed form in omega arith;
     costs = λ j g. let c = (bounded k hyps j atoms).constant in omega arith;
   }

@@ -16,11 +16,11 @@ use Rattle.dc_frac.proofs.ValueLaws.{eq-value}
 use Rattle.dc_lp.specs.declared.Problem.{Problem}
 use Rattle.dc_lp.specs.declared.Verdict.{Verdict}
 use Rattle.dc_lp.specs.declared.Verdict.TheVariants.{Holds, Fails, Past128}
-use Rattle.dc_lp.specs.Problems.{coefficient, whole_at, linear_of}
+use Rattle.dc_lp.specs.Problems.{coefficient, whole_at, linear_of, columns}
 use Rattle.dc_lp.specs.Linear.{left_side, combined, combined_right, cost_of, IsSolution, IsDual, IsRefutation, IsRay}
 use Rattle.dc_lp.specs.Folds.{folded, numbers}
 use Rattle.dc_lp.proofs.FoldSums.{folded-sum}
-use Rattle.dc_lp.specs.Verdicts.{AllHold, IsVerdict, judged, columns, left_fold, price_fold, cost_fold, right_fold, sign_test, equation_test, price_test, value_test, primal_test, dual_test, refutation_test, ray_test}
+use Rattle.dc_lp.specs.Verdicts.{AllHold, IsVerdict, judged, left_fold, price_fold, cost_fold, right_fold, sign_test, equation_test, price_test, value_test, primal_test, dual_test, refutation_test, ray_test}
 use Rattle.dc_lp.proofs.Folding.{numbers-at}
 
 -- ---- verdicts

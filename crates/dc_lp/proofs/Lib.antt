@@ -9,3 +9,4 @@ pub mod Counts
 pub mod Fills
 pub mod Folding
 pub mod Checking
+pub mod Tallies

@@ -48,11 +48,14 @@ abbrev pub all_below : ℕ → (ℕ → Bool) → Bool
 all_below zero test = true
 all_below (suc n) test = all_below n test && test n
 
--- before column j enters: the quotient of right side by entry in each row of the equations with a
--- positive entry in column j
-unfoldable pub ratios_fit : Table ℚ → ℕ → Bool
-ratios_fit t j = all_below (length t.basis) (λ i. not (is_positive (at t i j))
+-- in each of the first n rows with a positive entry in column j: the quotient of right side by entry
+unfoldable pub ratios_fit_below : Table ℚ → ℕ → ℕ → Bool
+ratios_fit_below t j n = all_below n (λ i. not (is_positive (at t i j))
     || quotient_fits (at t i (right t)) (at t i j))
+
+-- before column j enters: the quotients in the rows of the equations
+abbrev pub ratios_fit : Table ℚ → ℕ → Bool
+ratios_fit t j = ratios_fit_below t j (length t.basis)
 
 -- in the pivot's row r: each entry's quotient by the one in column j
 unfoldable pub division_fits : Table ℚ → ℕ → ℕ → Bool

@@ -6,6 +6,10 @@ use Rattle.dc_lp.specs.declared.Problem.{Problem}
 use Rattle.dc_lp.specs.Linear.{Linear}
 use Rattle.dc_math.specs.Rational.{ℚ}
 
+-- how many columns
+abbrev pub columns : Problem → ℕ
+columns p = length p.columns.items
+
 -- the entries of column j
 abbrev pub entries : Problem → ℕ → List Entry
 entries p j = slice_index_or (map (λ c. c.items) p.columns.items) j []
@@ -25,7 +29,7 @@ whole_at xs i = slice_index_or xs i (pos 0)
 abbrev pub linear_of : Problem → Linear ℚ
 linear_of p = record {
   equations = p.rows;
-  columns = length p.columns.items;
+  columns = columns p;
   coefficient = λ i j. of_ℤ (coefficient p i j);
   right_side = λ i. of_ℤ (whole_at p.b.items i);
   cost = λ j. of_ℤ (whole_at p.cost.items j);
@@ -47,8 +51,8 @@ pub record IsColumn (rows : ℕ) (es : List Entry) : Type 0 where
 
 pub record IsWellFormed (p : Problem) : Type 0 where
   pub right_sides : length p.b.items ≡ p.rows
-  pub costs : length p.cost.items ≡ length p.columns.items
-  pub columns : (j : ℕ) → j < length p.columns.items → IsColumn p.rows (entries p j)
+  pub costs : length p.cost.items ≡ columns p
+  pub columns : (j : ℕ) → j < columns p → IsColumn p.rows (entries p j)
   pub right_side_weight : sum_by unsigned_abs p.b.items < 2 ^ 127
   pub cost_sizes : (j : ℕ) → j < length p.columns.items
       → unsigned_abs (whole_at p.cost.items j) < 2 ^ 127

@@ -7,7 +7,7 @@ use Rattle.dc_math.specs.Tests.{eq_ℚ, is_negative, is_positive}
 use Rattle.dc_lp.specs.declared.Problem.{Problem}
 use Rattle.dc_lp.specs.declared.Verdict.{Verdict}
 use Rattle.dc_lp.specs.declared.Verdict.TheVariants.{Holds, Fails, Past128}
-use Rattle.dc_lp.specs.Problems.{coefficient, whole_at}
+use Rattle.dc_lp.specs.Problems.{coefficient, columns, whole_at}
 use Rattle.dc_lp.specs.Folds.{folded}
 
 -- the tests below n are true
@@ -27,9 +27,6 @@ judged i (Some true) = Holds
 judged i (Some false) = Fails i
 
 -- ---- the folds: the left side of an equation, a column's price, and the cost and the right side of a whole vector
-abbrev pub columns : Problem → ℕ
-columns p = length p.columns.items
-
 abbrev pub left_fold : Problem → (ℕ → ℚ) → ℕ → Option ℚ
 left_fold p x i = folded (columns p) (coefficient p i) x
 

@@ -6,10 +6,10 @@ ghost use Rattle.dc_math.specs.Rational.{le_ℚ};
 ghost use Rattle.dc_math.specs.Tests.{is_negative, is_positive};
 ghost use Rattle.dc_frac.specs.Value.{value};
 ghost use Rattle.dc_frac.specs.Fits.{IsSmall};
-ghost use Rattle.dc_lp.specs.Problems.{IsWellFormed, linear_of};
+ghost use Rattle.dc_lp.specs.Problems.{IsWellFormed, linear_of, columns};
 ghost use Rattle.dc_lp.specs.Linear.{IsSolution, IsDual, IsRefutation, IsRay, CostAtLeast, HasNoSolution, HasNoBound, cost_of, combined_right};
 ghost use Rattle.dc_lp.specs.Folds.{numbers};
-ghost use Rattle.dc_lp.specs.Verdicts.{columns, IsVerdict, judged, cost_fold, right_fold, equation_test, price_test, value_test, primal_test, dual_test, refutation_test, ray_test};
+ghost use Rattle.dc_lp.specs.Verdicts.{IsVerdict, judged, cost_fold, right_fold, equation_test, price_test, value_test, primal_test, dual_test, refutation_test, ray_test};
 
 use crate::fold::{dot, left_sum, price};
 use crate::{Problem, Verdict};

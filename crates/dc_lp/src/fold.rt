@@ -5,9 +5,9 @@ ghost use Rattle.std.specs.Prelude.{◌≡◌, ℕ, ◌<◌, length};
 ghost use Rattle.std.specs.Option.{option_map};
 ghost use Rattle.dc_frac.specs.Value.{value};
 ghost use Rattle.dc_frac.specs.Fits.{IsSmall};
-ghost use Rattle.dc_lp.specs.Problems.{IsColumn, IsWellFormed, coefficient_in, whole_at};
+ghost use Rattle.dc_lp.specs.Problems.{IsColumn, IsWellFormed, coefficient_in, whole_at, columns};
 ghost use Rattle.dc_lp.specs.Folds.{added, folded, numbers};
-ghost use Rattle.dc_lp.specs.Verdicts.{columns, left_fold};
+ghost use Rattle.dc_lp.specs.Verdicts.{left_fold};
 
 use crate::{Entry, Problem};
 use dc_frac::Frac;

@@ -2,8 +2,7 @@
 
 ghost use Rattle.std.specs.Prelude.{◌≡◌, ℕ, ◌+◌, ◌<◌, ◌^◌, length, IsTrue, ◌↔◌, sum_by, unsigned_abs, SomeIff};
 ghost use Rattle.dc_frac.specs.Fits.{IsSmall};
-ghost use Rattle.dc_lp.specs.Problems.{AreEntries, IsColumn, IsWellFormed, entries, weight, whole_at};
-ghost use Rattle.dc_lp.specs.Verdicts.{columns};
+ghost use Rattle.dc_lp.specs.Problems.{AreEntries, IsColumn, IsWellFormed, entries, weight, whole_at, columns};
 
 use crate::{Entry, Problem};
 use dc_frac::MAX;

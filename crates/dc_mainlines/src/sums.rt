@@ -2,8 +2,7 @@
 ghost use Rattle.std.specs.Prelude.{◌≡◌, ◌+◌, ◌*◌, ◌≤◌, ◌<◌, ℕ, All, IfOk, length, true};
 ghost use Rattle.dc_frac.specs.Fits.{IsSmall};
 ghost use Rattle.dc_frac.specs.Value.{value};
-ghost use Rattle.dc_lp.specs.Problems.{IsColumn, IsWellFormed};
-ghost use Rattle.dc_lp.specs.Verdicts.{columns};
+ghost use Rattle.dc_lp.specs.Problems.{IsColumn, IsWellFormed, columns};
 ghost use Rattle.dc_cert.specs.Vectors.{IsBelow, IsVector};
 ghost use Rattle.dc_clauses.specs.Lines.{at, in_range};
 ghost use Rattle.dc_clauses.specs.Mains.{left_fold, multipliers, short_column as column_of, whole_problem};

@@ -9,7 +9,7 @@ use Rattle.dc_lp.specs.declared.tableau.PastQuotient.{PastQuotient}
 use Rattle.dc_lp.specs.Folds.{checked}
 use Rattle.dc_lp.specs.Tables as tables
 use Rattle.dc_lp.specs.Tables.{Table, first_some, first_index}
-use Rattle.dc_lp.specs.Meanings.{at, right, entering, ratio_row, ratio_answer, ratios_fit, drive_place, all_below}
+use Rattle.dc_lp.specs.Meanings.{at, right, entering, ratio_row, ratio_answer, ratios_fit, ratios_fit_below, drive_place, all_below}
 use Rattle.dc_pivots.specs.Runs as runs
 use Rattle.dc_pivots.specs.declared.Phase.TheVariants.{One, Drive, Two}
 use Rattle.dc_pivots.specs.declared.Ending.TheVariants.{Infeasible, Optimal, Unbounded}
@@ -75,7 +75,7 @@ best-some t j (suc n) e =
     ]
 
 pub ratio_row-some : (t : Table ℚ) (j : ℕ) → ratios_fit t j ≡ false → (r : ℕ) × (ratio_row t j ≡ Some r)
-unfolding tables.ratio_row ratios_fit
+unfolding tables.ratio_row ratios_fit_below
 ratio_row-some t j e = some-of (tables.best_below ℚ rationals t j (length t.basis)) (best-some t j (length t.basis) e)
 
 -- Phase two.

@@ -11,8 +11,7 @@ mod run;
 mod vectors;
 
 ghost use Rattle.std.specs.Prelude.{◌≡◌, ◌≢◌, ℕ, ◌+◌, ◌≤◌, IfOk};
-ghost use Rattle.dc_lp.specs.Problems.{IsWellFormed, linear_of};
-ghost use Rattle.dc_lp.specs.Verdicts.{columns};
+ghost use Rattle.dc_lp.specs.Problems.{IsWellFormed, linear_of, columns};
 ghost use Rattle.dc_pivots.specs.FieldLaws.{choose};
 ghost use Rattle.dc_simplex.specs.Outcomes.{Solves, TellsOnly, Shows, UsesOneOfOpposites};
 

@@ -2,8 +2,7 @@
 #![tactic(auto, using(crate::proofs::Steps::steps))]
 
 ghost use Rattle.std.specs.Prelude.{◌≡◌, ◌+◌, ◌<◌, ◌^◌, true, false, OnOk, IfOk, IfErr, ◌⊎◌};
-ghost use Rattle.dc_lp.specs.Problems.{IsWellFormed, linear_of};
-ghost use Rattle.dc_lp.specs.Verdicts.{columns};
+ghost use Rattle.dc_lp.specs.Problems.{IsWellFormed, linear_of, columns};
 ghost use Rattle.dc_lp.specs.Meanings.{IsUsable, IsPivotPlace, ready_at, resting, start, pivoted, pivot_fits};
 ghost use Rattle.dc_simplex.specs.Steps.{Runs};
 

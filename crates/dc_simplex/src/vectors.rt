@@ -5,8 +5,7 @@ ghost use Rattle.std.specs.Prelude.{◌≡◌, ◌+◌, ◌<◌, ◌≤◌, ◌^
 ghost use Rattle.dc_math.specs.Rational.{ℚ};
 ghost use Rattle.dc_math.specs.RationalField.{rationals};
 ghost use Rattle.dc_frac.specs.Value.{value};
-ghost use Rattle.dc_lp.specs.Problems.{IsWellFormed, linear_of};
-ghost use Rattle.dc_lp.specs.Verdicts.{columns};
+ghost use Rattle.dc_lp.specs.Problems.{IsWellFormed, linear_of, columns};
 ghost use Rattle.dc_lp.specs.Meanings.{IsUsable, height};
 ghost use Rattle.dc_pivots.specs.Vectors.{basic_row, entry_or_zero};
 ghost use Rattle.dc_simplex.specs.Outcomes.{IsVector, TellsEnd, pivots_of, solution_at, direction_at, multiplier_at};

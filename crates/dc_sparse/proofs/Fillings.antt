@@ -5,9 +5,9 @@ use Rattle.std.proofs.lemmas.Bool.{cases_Bool, cases_eq, ltb-true, ltb-false}
 use Rattle.dc_math.specs.Rational.{ℚ, of_ℤ}
 use Rattle.dc_lp.specs.declared.Entry.{Entry}
 use Rattle.dc_lp.specs.declared.Problem.{Problem}
-use Rattle.dc_lp.specs.Problems.{AreEntries, entries, coefficient, whole_at}
+use Rattle.dc_lp.specs.Problems.{AreEntries, entries, coefficient, whole_at, columns}
 use Rattle.dc_lp.proofs.Columns.{row_after, IsNext, none_behind}
-use Rattle.dc_start.specs.Starts.{columns, signed, start_value}
+use Rattle.dc_start.specs.Starts.{signed, start_value}
 use Rattle.dc_start.proofs.Loads.{entry-real, entry-none, value-equation, value-none}
 use Rattle.dc_sparse.specs.declared.web.Node.{Node}
 use Rattle.dc_sparse.specs.Entries.{entry_at, IsPut}

@@ -14,7 +14,8 @@ use Rattle.dc_sparse.specs.Entries.{entry_at, StandsAt}
 use Rattle.dc_lp.specs.Fill.{count_places, entry_count}
 use Rattle.dc_sparse.specs.Sizes.{held_count}
 use Rattle.dc_sparse.specs.Pivots.{grid}
-use Rattle.dc_start.specs.Starts.{columns, width, start_value}
+use Rattle.dc_start.specs.Starts.{width, start_value}
+use Rattle.dc_lp.specs.Problems.{columns}
 use Rattle.dc_sparse.specs.Fills.{IsFilled, IsFilling, IsPartOf, IsStarted}
 use Rattle.dc_sparse.proofs.Tables.{made-same}
 use Rattle.dc_sparse.proofs.Entries.{vacant-zero}

@@ -2,8 +2,8 @@
 #![tactic(auto)]
 
 ghost use Rattle.std.specs.Prelude.{◌≡◌, ℕ, ◌+◌, ◌<◌, ◌≤◌, OnOk};
-ghost use Rattle.dc_lp.specs.Problems.{IsWellFormed};
-ghost use Rattle.dc_start.specs.Starts.{columns, width};
+ghost use Rattle.dc_lp.specs.Problems.{IsWellFormed, columns};
+ghost use Rattle.dc_start.specs.Starts.{width};
 ghost use Rattle.dc_sparse.specs.Webs.{IsBlank};
 ghost use Rattle.dc_sparse.specs.Fills.{IsPartOf, IsFilled, IsFilling};
 ghost use Rattle.dc_sparse.specs.Sizes.{HasGrown};

@@ -10,10 +10,10 @@ use Rattle.dc_math.specs.Order.{of_ℤ-neg_ℤ, of_ℤ-<}
 use Rattle.dc_math.specs.Signs.{of_ℤ-≤}
 use Rattle.dc_math.specs.Tests.{le_ℚ-true, le_ℚ-false}
 use Rattle.dc_lp.specs.declared.Problem.{Problem}
-use Rattle.dc_lp.specs.Problems.{coefficient, whole_at, linear_of}
+use Rattle.dc_lp.specs.Problems.{coefficient, whole_at, linear_of, columns}
 use Rattle.dc_lp.specs.Tables as tables
 use Rattle.dc_lp.specs.Tables.{made}
-use Rattle.dc_start.specs.Starts.{columns, signed, whole_entry, lowered, start_value}
+use Rattle.dc_start.specs.Starts.{signed, whole_entry, lowered, start_value}
 
 lt-yes : (a b : ℕ) → a < b → nat_lt a b ≡ true
 lt-yes a b l = elim (cases_Bool (nat_lt a b)) [

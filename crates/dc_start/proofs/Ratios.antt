@@ -10,9 +10,9 @@ use Rattle.dc_frac.specs.Fits.{quotient_fits}
 use Rattle.dc_frac.specs.Value.{value}
 use Rattle.dc_lp.specs.Tables as tables
 use Rattle.dc_lp.specs.Tables.{Table}
-use Rattle.dc_lp.specs.Meanings.{at, right, ratio_answer, ratio_row, ratios_fit}
+use Rattle.dc_lp.specs.Meanings.{at, right, ratio_answer, ratio_row, ratios_fit, ratios_fit_below}
 use Rattle.dc_start.specs.declared.ratio.Candidate.{Candidate}
-use Rattle.dc_start.specs.Ratios.{IsCandidate, AreCandidates, AreWithin, row_of, goes_before, better, tested_fit, IsBestOf}
+use Rattle.dc_start.specs.Ratios.{IsCandidate, AreCandidates, AreWithin, row_of, goes_before, better, IsBestOf}
 use Rattle.dc_lp.proofs.Belows.{all_below-fails}
 
 -- a positive number isn't 0
@@ -58,12 +58,12 @@ better-else t j i k e = rw (← e) refl
 -- ---- row after row
 
 pub best-start : (t : Table ℚ) (j : ℕ) → IsBestOf t j 0 None
-unfolding tested_fit
+unfolding ratios_fit_below
 best-start t j = record { fit = refl; row = refl; candidates = tt }
 
 module _ (t : Table ℚ) (j n : ℕ) (best : Option Candidate) (h : IsBestOf t j n best) where
   pub best-skip : tests.is_positive (at t n j) ≡ false → IsBestOf t j (n + 1) best
-  unfolding tested_fit
+  unfolding ratios_fit_below
   best-skip e =
       record {
         fit = rw (add-one, h.fit, e) refl;
@@ -72,7 +72,7 @@ module _ (t : Table ℚ) (j n : ℕ) (best : Option Candidate) (h : IsBestOf t j
       }
 
   pub best-more : (c : Candidate) → tests.is_positive (at t n j) ≡ true → quotient_fits (at t n (right t)) (at t n j) ≡ true → IsCandidate t j c → Some c.row ≡ better t j n (row_of best) → IsBestOf t j (n + 1) (Some c)
-  unfolding tested_fit
+  unfolding ratios_fit_below
   best-more c e q k b =
       record {
         fit = rw (add-one, h.fit, e) q;
@@ -81,15 +81,15 @@ module _ (t : Table ℚ) (j n : ℕ) (best : Option Candidate) (h : IsBestOf t j
       }
 
   pub best-past : tests.is_positive (at t n j) ≡ true → quotient_fits (at t n (right t)) (at t n j) ≡ false → n < length t.basis → Err (record {}) ≡ ratio_answer t j
-  unfolding ratios_fit
+  unfolding ratios_fit_below
   best-past e q lt =
       let no : ratios_fit t j ≡ false = all_below-fails (λ i. not (tests.is_positive (at t i j)) || quotient_fits (at t i (right t)) (at t i j)) n (length t.basis) (rw e q) lt in
       sym (ap (λ b. cond b (Ok (ratio_row t j)) (Err (record {}))) no)
 
   pub best-all : n ≡ length t.basis → Ok (row_of best) ≡ ratio_answer t j
-  unfolding tested_fit ratios_fit tables.ratio_row
+  unfolding ratios_fit_below tables.ratio_row
   best-all same =
-      let yes : ratios_fit t j ≡ true = ap (tested_fit t j) (sym same) ∙ h.fit in
+      let yes : ratios_fit t j ≡ true = ap (ratios_fit_below t j) (sym same) ∙ h.fit in
       let row : row_of best ≡ ratio_row t j = h.row ∙ ap (tables.best_below ℚ rationals t j) same in
       ap (λ o. Ok o) row ∙ sym (ap (λ b. cond b (Ok (ratio_row t j)) (Err (record {}))) yes)
 

@@ -1,14 +1,12 @@
 -- The search for the row that leaves, as far as it has come.
-use Rattle.std.specs.Prelude.{◌≡◌, ℕ, ◌<◌, Bool, true, not, ◌||◌, length, Option, Some, None}
+use Rattle.std.specs.Prelude.{◌≡◌, ℕ, ◌<◌, Bool, true, length, Option, Some, None}
 use Rattle.std.specs.Option.{option_map}
-use Rattle.dc_math.specs.Tests.{is_positive}
 use Rattle.dc_math.specs.Rational.{ℚ}
 use Rattle.dc_math.specs.RationalField.{rationals}
-use Rattle.dc_frac.specs.Fits.{quotient_fits}
 use Rattle.dc_frac.specs.Value.{value}
 use Rattle.dc_lp.specs.Tables as tables
 use Rattle.dc_lp.specs.Tables.{Table}
-use Rattle.dc_lp.specs.Meanings.{at, right, all_below}
+use Rattle.dc_lp.specs.Meanings.{at, ratios_fit_below}
 use Rattle.dc_start.specs.declared.ratio.Candidate.{Candidate}
 
 -- a row of an equation, with its quotient for column j
@@ -39,13 +37,8 @@ pub record IsBetter (t : Table ℚ) (j : ℕ) (next : Candidate) (best : Option 
   pub candidate : IsCandidate t j c
   pub row : Some c.row ≡ better t j next.row (row_of best)
 
--- the quotients of the first n rows fit, where the entry is positive
-unfoldable pub tested_fit : Table ℚ → ℕ → ℕ → Bool
-tested_fit t j n = all_below n (λ i. not (is_positive (at t i j))
-    || quotient_fits (at t i (right t)) (at t i j))
-
 -- the best of the first n rows
 pub record IsBestOf (t : Table ℚ) (j n : ℕ) (best : Option Candidate) : Type 0 where
-  pub fit : tested_fit t j n ≡ true
+  pub fit : ratios_fit_below t j n ≡ true
   pub row : row_of best ≡ tables.best_below ℚ rationals t j n
   pub candidates : AreCandidates t j best

@@ -3,11 +3,8 @@ use Rattle.std.specs.Prelude.{ℕ, zero, suc, ◌+◌, ◌==◌, nat_lt, ℤ, po
 use Rattle.dc_math.specs.RationalField.{rationals}
 use Rattle.dc_math.specs.Rational.{ℚ}
 use Rattle.dc_lp.specs.declared.Problem.{Problem}
-use Rattle.dc_lp.specs.Problems.{coefficient, whole_at, linear_of}
+use Rattle.dc_lp.specs.Problems.{coefficient, columns, whole_at, linear_of}
 use Rattle.dc_lp.specs.Tables as tables
-
-abbrev pub columns : Problem → ℕ
-columns p = length p.columns.items
 
 abbrev pub width : Problem → ℕ
 width p = columns p + p.rows + 1

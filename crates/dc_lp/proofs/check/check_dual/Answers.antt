@@ -1,8 +1,8 @@
 use Rattle.std.proofs.Common.{◌≡◌, arith, sym, ◌∙◌, ◌+◌}
 use Rattle.dc_lp.specs.declared.Verdict.TheVariants.{Holds}
-use Rattle.dc_lp.specs.Problems.{linear_of}
+use Rattle.dc_lp.specs.Problems.{linear_of, columns}
 use Rattle.dc_lp.specs.Folds.{numbers}
-use Rattle.dc_lp.specs.Verdicts.{AllHold, IsVerdict, dual_test, columns}
+use Rattle.dc_lp.specs.Verdicts.{AllHold, IsVerdict, dual_test}
 use Rattle.dc_lp.proofs.Duality.{best}
 use Rattle.dc_lp.proofs.Checking.{holds_all, verdict_last, dual-value, dual-is, dual-valued}
 use Rattle.dc_lp.proofs.check.check_dual.Goals as goal

@@ -1,6 +1,7 @@
 use Rattle.std.proofs.Common.{◌≡◌, rules, arith, sym, ◌∙◌, subst, ◌+◌, ◌<◌, length, below_more}
 use Rattle.dc_lp.specs.Folds.{numbers}
-use Rattle.dc_lp.specs.Verdicts.{AllHold, primal_test, columns}
+use Rattle.dc_lp.specs.Verdicts.{AllHold, primal_test}
+use Rattle.dc_lp.specs.Problems.{columns}
 use Rattle.dc_lp.proofs.Checking.{primal-sign, primal-solution, sign_passes, sign_fails}
 use Rattle.dc_lp.proofs.check.check_primal.Goals as goal
 

@@ -1,7 +1,7 @@
 use Rattle.std.proofs.Common.{◌≡◌, rules, arith, sym, ◌∙◌, ◌+◌, ◌<◌, length, below_more}
-use Rattle.dc_lp.specs.Problems.{linear_of}
+use Rattle.dc_lp.specs.Problems.{linear_of, columns}
 use Rattle.dc_lp.specs.Folds.{numbers}
-use Rattle.dc_lp.specs.Verdicts.{IsVerdict, ray_test, columns}
+use Rattle.dc_lp.specs.Verdicts.{IsVerdict, ray_test}
 use Rattle.dc_lp.proofs.Duality.{ray}
 use Rattle.dc_lp.proofs.Checking.{holds_all, verdict_last, ray-cost, ray-is, ray-sign, sign_passes, sign_fails}
 use Rattle.dc_lp.proofs.check.check_ray.Goals as goal

@@ -1,5 +1,6 @@
 use Rattle.dc_lp.specs.Folds.{numbers}
-use Rattle.dc_lp.specs.Verdicts.{AllHold, ray_test, columns}
+use Rattle.dc_lp.specs.Verdicts.{AllHold, ray_test}
+use Rattle.dc_lp.specs.Problems.{columns}
 use Rattle.std.proofs.Common.{◌+◌}
 use Rattle.dc_lp.proofs.check.check_ray.Given as goal
 

@@ -1,7 +1,7 @@
 use Rattle.std.proofs.Common.{◌≡◌, arith, sym, ◌∙◌, ◌+◌}
-use Rattle.dc_lp.specs.Problems.{linear_of}
+use Rattle.dc_lp.specs.Problems.{linear_of, columns}
 use Rattle.dc_lp.specs.Folds.{numbers}
-use Rattle.dc_lp.specs.Verdicts.{IsVerdict, refutation_test, columns}
+use Rattle.dc_lp.specs.Verdicts.{IsVerdict, refutation_test}
 use Rattle.dc_lp.proofs.Duality.{excludes}
 use Rattle.dc_lp.proofs.Checking.{holds_all, verdict_last, refutation-right, refutation-is}
 use Rattle.dc_lp.proofs.check.check_refutation.Goals as goal

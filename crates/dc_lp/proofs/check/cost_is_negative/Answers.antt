@@ -1,7 +1,8 @@
 use Rattle.dc_math.specs.Tests.{is_negative}
 use Rattle.dc_frac.specs.Value.{value}
 use Rattle.dc_lp.specs.Folds.{numbers}
-use Rattle.dc_lp.specs.Verdicts.{cost_fold, columns}
+use Rattle.dc_lp.specs.Verdicts.{cost_fold}
+use Rattle.dc_lp.specs.Problems.{columns}
 use Rattle.dc_lp.proofs.Checking.{tested, same_fold}
 use Rattle.dc_lp.proofs.check.cost_is_negative.Goals as goal
 

@@ -1,7 +1,8 @@
 use Rattle.std.proofs.Common.{refl}
 use Rattle.dc_frac.specs.Value.{value}
 use Rattle.dc_lp.specs.Folds.{numbers}
-use Rattle.dc_lp.specs.Verdicts.{cost_fold, right_fold, columns}
+use Rattle.dc_lp.specs.Verdicts.{cost_fold, right_fold}
+use Rattle.dc_lp.specs.Problems.{columns}
 use Rattle.dc_lp.proofs.Checking.{tested_both, same_fold, equals}
 use Rattle.dc_lp.proofs.check.same_value.Goals as goal
 

@@ -2,8 +2,7 @@ use Rattle.std.proofs.Common.{rules, arith, ◌<◌, sym, ◌∙◌, ap, subst, 
 use Rattle.std.proofs.lemmas.Int.{to_z-of_z}
 use mir.Syntax.{w128}
 use Rattle.dc_frac.specs.Fits.{IsSmall}
-use Rattle.dc_lp.specs.Problems.{coefficient}
-use Rattle.dc_lp.specs.Verdicts.{columns}
+use Rattle.dc_lp.specs.Problems.{coefficient, columns}
 use Rattle.dc_lp.specs.Folds.{numbers}
 use Rattle.dc_lp.proofs.Folding.{folded-none, more_summed, past_summed, coefficient_read, coefficient_small}
 use Rattle.dc_lp.proofs.fold.left_sum.Goals as goal

@@ -1,7 +1,6 @@
 use Rattle.std.proofs.Common.{◌<◌, rules, sym, ◌∙◌, subst, below_more, IsTrue}
-use Rattle.dc_lp.specs.Problems.{IsColumn}
+use Rattle.dc_lp.specs.Problems.{IsColumn, columns}
 use Rattle.dc_lp.proofs.Columns.{entries-at}
-use Rattle.dc_lp.specs.Verdicts.{columns}
 use Rattle.dc_lp.proofs.shape.are_columns.Goals as goal
 
 pub returns-then-not-is_column : goal.returns-then-not-is_column

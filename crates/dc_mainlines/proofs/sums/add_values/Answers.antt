@@ -1,5 +1,5 @@
 use Rattle.std.proofs.Common.{arith, ℕ, ◌+◌, ◌<◌, length, sym, subst, get_or}
-use Rattle.dc_lp.specs.Verdicts.{columns}
+use Rattle.dc_lp.specs.Problems.{columns}
 use Rattle.dc_cert.specs.declared.sparse.Item.{Item}
 use Rattle.dc_clauses.specs.Mains.{multipliers, whole_problem}
 use Rattle.dc_mainlines.proofs.Sweeps.{all_below, both_swept}

@@ -2,9 +2,9 @@ use Rattle.std.proofs.Common.{rules, arith, ◌≡◌, ◌<◌, length, sym, ◌
 use Rattle.std.proofs.lemmas.Int.{to_z-of_z}
 use mir.Syntax.{w128}
 use Rattle.dc_frac.specs.Fits.{IsSmall}
-use Rattle.dc_lp.specs.Problems.{coefficient, whole_at}
+use Rattle.dc_lp.specs.Problems.{coefficient, whole_at, columns}
 use Rattle.dc_lp.proofs.Folding.{coefficient_read, coefficient_small}
-use Rattle.dc_start.specs.Starts.{columns, signed}
+use Rattle.dc_start.specs.Starts.{signed}
 use Rattle.dc_start.proofs.Loads.{entry-real, entry-right, whole-read}
 use Rattle.dc_start.proofs.start.first_entry.Goals as goal
 

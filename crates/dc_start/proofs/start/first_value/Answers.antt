@@ -4,7 +4,7 @@ use mir.Syntax.{w128}
 use Rattle.dc_math.specs.Rational.{of_ℤ}
 use Rattle.dc_frac.specs.Fits.{IsSmall}
 use Rattle.dc_frac.specs.Value.{value}
-use Rattle.dc_start.specs.Starts.{columns}
+use Rattle.dc_lp.specs.Problems.{columns}
 use Rattle.dc_start.proofs.Tallies.{entry-small, lowered-small}
 use Rattle.dc_start.proofs.Loads.{value-equation, value-lowered, value-cost, value-none, whole-read}
 use Rattle.dc_start.proofs.start.first_value.Goals as goal

@@ -1,5 +1,6 @@
 use Rattle.std.proofs.Common.{◌≡◌, ◌∙◌, ◌+◌, ◌*◌, ap, arith, length}
-use Rattle.dc_start.specs.Starts.{columns, width}
+use Rattle.dc_start.specs.Starts.{width}
+use Rattle.dc_lp.specs.Problems.{columns}
 use Rattle.dc_dense.proofs.Loads.{loaded-at, made-length}
 use Rattle.dc_dense.proofs.dense.DenseTableau.load.Goals as goal
 

@@ -1,5 +1,5 @@
 use Rattle.std.proofs.Common.{◌≡◌, ◌∙◌, ◌+◌, ap, arith, length}
-use Rattle.dc_start.specs.Starts.{columns}
+use Rattle.dc_lp.specs.Problems.{columns}
 use Rattle.dc_start.proofs.Loads.{made-length}
 use Rattle.dc_sparse.specs.Sizes.{HasGrown}
 use Rattle.dc_sparse.proofs.StartTables.{loaded-in}

@@ -1,5 +1,5 @@
 use Rattle.std.proofs.Common.{◌≡◌, ◌+◌, ◌-◌, arith}
-use Rattle.dc_start.specs.Starts.{columns}
+use Rattle.dc_lp.specs.Problems.{columns}
 use Rattle.dc_sparse.proofs.Fillings.{filling_start, filling_skip, filling_end, unit_zero, cost_zero}
 use Rattle.dc_sparse.proofs.web.Web.fill_unit.Goals as goal
 
