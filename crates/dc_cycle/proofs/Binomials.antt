@@ -1,36 +1,36 @@
 -- How the number of sets grows.
-use Rattle.std.proofs.Common.{◌≡◌, ℕ, zero, suc, ◌+◌, ◌-◌, ◌*◌, ◌/◌, ◌≤◌, refl, sym, ◌∙◌, ap, subst, arith, inl, inr}
+use Rattle.std.proofs.Common.{◌≡◌, ℕ, zero, suc, ◌+◌, ◌-◌, ◌*◌, ◌/◌, ◌<◌, ◌≤◌, refl, sym, ◌∙◌, ap, subst, arith, inl, inr}
 use Rattle.std.proofs.lemmas.Bool.{cases_eq}
 use Rattle.dc_math.specs.Pascal.{IsPascal, next}
 use Rattle.dc_pivots.specs.FieldLaws.{choose}
 use Rattle.dc_pivots.proofs.Count.{choose-none, choose-more}
 
-choose-past : (n k : ℕ) → choose n (suc (n + k)) ≡ 0
-choose-past zero k = none k
-  where
-    none : (k : ℕ) → choose zero (suc k) ≡ 0
-    unfolding choose
-    none k = refl
-choose-past (suc n) k =
-    let a : choose n (suc (n + k)) ≡ 0 = choose-past n k in
-    let b : choose n (suc (suc (n + k))) ≡ 0 = ap (λ i. choose n (suc i)) (let q : suc (n + k) ≡ n + suc k = omega arith in q) ∙ choose-past n (suc k) in
-    let c : choose (suc n) (suc (suc n + k)) ≡ choose n (suc (n + k)) + choose n (suc (suc (n + k))) = choose-more n (suc (n + k)) in
-    omega arith
+choose-empty : (k : ℕ) → choose zero (suc k) ≡ 0
+unfolding choose
+choose-empty k = refl
+
+choose-past : (n k : ℕ) → n < k → choose n k ≡ 0
+choose-past zero zero l = absurd (omega arith)
+choose-past zero (suc k) l = choose-empty k
+choose-past (suc n) zero l = absurd (omega arith)
+choose-past (suc n) (suc k) l =
+    let a : choose n k ≡ 0 = choose-past n k (omega arith) in
+    let b : choose n (suc k) ≡ 0 = choose-past n (suc k) (omega arith) in
+    choose-more n k ∙ (let q : choose n k + choose n (suc k) ≡ 0 = omega arith in q)
 
 choose-all : (n : ℕ) → choose n n ≡ 1
 choose-all zero = choose-none zero
 choose-all (suc n) =
     let a : choose n n ≡ 1 = choose-all n in
-    let b : choose n (suc n) ≡ 0 = ap (λ i. choose n (suc i)) (let q : n ≡ n + 0 = omega arith in q) ∙ choose-past n 0 in
-    let c : choose (suc n) (suc n) ≡ choose n n + choose n (suc n) = choose-more n n in
-    omega arith
+    let b : choose n (suc n) ≡ 0 = choose-past n (suc n) (omega arith) in
+    choose-more n n ∙ (let q : choose n n + choose n (suc n) ≡ 1 = omega arith in q)
 
 -- the sets of k of n + k things obey Pascal's rule
 choose-pascal : IsPascal (λ n k. choose (n + k) k)
 choose-pascal = record {
-  none = λ k. choose-all k;
+  none = λ k. ap (λ i. choose i k) (let q : 0 + k ≡ k = omega arith in q) ∙ choose-all k;
   empty = λ n. choose-none (n + 0);
-  rule = λ n k. choose-more (n + suc k) k ∙ ap (λ i. choose i k + choose (n + suc k) (suc k)) (let q : n + suc k ≡ suc n + k = omega arith in q);
+  rule = λ n k. ap (λ i. choose i (suc k)) (let q : suc n + suc k ≡ suc (n + suc k) = omega arith in q) ∙ choose-more (n + suc k) k ∙ ap (λ i. choose i k + choose (n + suc k) (suc k)) (let q : n + suc k ≡ suc n + k = omega arith in q);
 }
 
 -- the next number, by one product and one quotient
