@@ -1,10 +1,10 @@
 -- The monomials of several polynomials are those that have a coefficient in one of them.
-use Rattle.std.specs.Prelude.{◌≡◌, ◌⊎◌, ℕ, zero, suc, ◌<◌, Bool, true, false, cond, List, [], ◌∷◌, length, slice_index_or, All, Any, Contains, pos, ◌+ℤ◌}
+use Rattle.std.specs.Prelude.{◌≡◌, ◌⊎◌, ℕ, zero, suc, ◌<◌, Bool, true, false, cond, List, [], ◌∷◌, length, slice_index_or, All, Any, pos, ◌+ℤ◌}
 use Rattle.std.specs.List.{AllByRecursion}
 use Rattle.std.proofs.Common.{refl, sym, ◌∙◌, ap, subst, arith, inl, inr}
 use Rattle.std.proofs.lemmas.Int.{ints}
 use Rattle.std.proofs.lemmas.List.Elements.{recursion_from_All}
-use Rattle.dc_math.specs.Members.{Among, none_among, among_contained, contained_among}
+use Rattle.dc_math.specs.Members.{Among, none_among}
 use Rattle.dc_math.specs.OrderedLists.{Ordered, pairs_ordered}
 use Rattle.dc_poly.specs.declared.monomial.Term.{Term}
 use Rattle.dc_poly.specs.Terms.{Exponents, TermList, coef, same_mono, Ahead, Canonical, Before}
@@ -56,8 +56,8 @@ in_all k (p ∷ ps) c h = elim (in_with_monos k p (monos_in ps) c.0 h) [ inl n �
 pub monos_are_those : MonosAreThose
 monos_are_those ps c = record {
   in_order = pairs_ordered Before (monos_in ps) (ordered-with_all ps [] tt);
-  each = λ m h. contained_among m (monos_in ps) (all_in m ps h);
-  only = λ m h. in_all m ps c (among_contained m (monos_in ps) h);
+  each = λ m h. all_in m ps h;
+  only = λ m h. in_all m ps c h;
 }
 
 -- each term of the polynomials has its monomial there
