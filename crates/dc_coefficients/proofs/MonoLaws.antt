@@ -12,7 +12,7 @@ use Rattle.dc_poly.proofs.Graded.{Before-not}
 use Rattle.dc_poly.proofs.Canon.{same_mono_refl, same_mono_is, coef_ahead}
 use Rattle.dc_coefficients.specs.Monomials.{with_mono, with_monos, with_all, monos_in}
 use Rattle.dc_coefficients.specs.Laws.{HasMono, SomeHas, MonosAreThose}
-use Rattle.dc_coefficients.proofs.Placing.{in-with_mono_new, in-with_mono_old, in_with_mono, ordered-with_all}
+use Rattle.dc_coefficients.proofs.Insertions.{in-with_mono_new, in-with_mono_old, in_with_mono, ordered-with_all}
 use Rattle.dc_coefficients.proofs.Walks.{coef-head, coef-other}
 
 -- ---- of one polynomial
