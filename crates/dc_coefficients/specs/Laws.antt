@@ -1,5 +1,5 @@
 -- The laws of monomials and entries.
-use Rattle.std.specs.Prelude.{◌≡◌, ◌≢◌, ◌⊎◌, ℕ, ◌+◌, ◌<◌, List, [], ◌∷◌, length, AllPairs, ℤ, pos, sum_by, unsigned_abs}
+use Rattle.std.specs.Prelude.{◌≡◌, ◌≢◌, ℕ, ◌+◌, ◌<◌, List, length, AllPairs, ℤ, pos, sum_by, unsigned_abs}
 use Rattle.std.specs.List.{AllByRecursion}
 use Rattle.dc_math.specs.Members.{Among}
 use Rattle.dc_poly.specs.Terms.{Exponents, TermList, coef, Canonical, Before}
@@ -13,8 +13,7 @@ abbrev pub HasMono : Exponents → TermList → Type 0
 HasMono m p = coef p m ≢ pos 0
 
 abbrev pub SomeHas : Exponents → List TermList → Type 0
-SomeHas m [] = ⊥
-SomeHas m (p ∷ ps) = HasMono m p ⊎ SomeHas m ps
+SomeHas m ps = (p : TermList) × Among p ps × HasMono m p
 
 pub record AreMonos (ps : List TermList) (ms : List Exponents) : Type 0 where
   pub in_order : AllPairs Before ms
