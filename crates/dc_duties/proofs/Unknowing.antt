@@ -6,6 +6,7 @@ use Rattle.dc_math.specs.Members.{each_at, each-++}
 use Rattle.dc_syntax.specs.declared.tree.Side.{Side}
 use Rattle.dc_syntax.specs.declared.tree.Side.TheVariants.{New, Old}
 use Rattle.dc_poly.specs.Terms.{Polynomial, TermList}
+use Rattle.dc_poly.specs.Monomials.{IsWithin}
 use Rattle.dc_template.proofs.Listed.{are_monomials}
 use Rattle.dc_coefficients.specs.Monomials.{all_terms}
 use Rattle.dc_claims.specs.declared.duty.Unknown.{Unknown}

@@ -21,6 +21,7 @@ use Rattle.dc_coefficients.specs.Monomials.{monos_in}
 use Rattle.dc_coefficients.proofs.MonoLaws.{monos_ordered}
 use Rattle.dc_handelman.specs.Products.{factor_weight}
 use Rattle.dc_handelman.proofs.Values.{all_products}
+use Rattle.dc_poly.specs.Monomials.{IsWithin}
 use Rattle.dc_template.proofs.Listed.{are_monomials}
 use Rattle.dc_frac.specs.Fits.{IsSmall}
 use Rattle.dc_system.specs.declared.edges.Edge.{Edge}
