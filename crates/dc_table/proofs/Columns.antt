@@ -2,7 +2,8 @@
 use Rattle.std.specs.Prelude.{◌≡◌, ℕ, zero, suc, ◌+◌, ◌<◌, ◌≤◌, Bool, true, false, cond, if◌then◌else◌, List, [], ◌∷◌, ◌++◌, flat_map, length, map, replicate, ℤ, pos, neg_ℤ}
 use Rattle.std.specs.List.{range_with_len, AllByRecursion}
 use Rattle.std.proofs.Common.{refl, sym, ◌∙◌, ap, ap₂, subst, arith, length-append}
-use Rattle.std.proofs.lemmas.List.{map-map, map-append, length-map, append_assoc, append-nil}
+use Rattle.std.proofs.lemmas.List.{map-append, length-map, append_assoc, append-nil}
+use Rattle.std.proofs.lemmas.Simd.{map-map}
 use Rattle.std.proofs.lemmas.Grind.{flat_map-append}
 use Rattle.dc_coefficients.proofs.Lists.{flat_map_one}
 use Rattle.dc_math.specs.Members.{each-++}
