@@ -5,7 +5,7 @@ use Rattle.std.specs.declared.option.Option.{Option}
 use Rattle.std.specs.Option.{option_or}
 use Rattle.std.proofs.Common.{sym, ◌∙◌, ap, ap₂, subst, arith, ltb-false}
 use Rattle.std.proofs.lemmas.Int.{ints}
-use Rattle.std.proofs.lemmas.List.{length-map}
+use Rattle.std.proofs.lemmas.List.{length-map, map-append}
 use Rattle.dc_math.specs.WholeVectors.{dot_ℤ}
 use Rattle.dc_syntax.specs.declared.tree.Expr.{Expr, Num, roll-Expr, fold-roll-Expr}
 use Rattle.dc_syntax.specs.declared.tree.Expr.TheOpen as F
@@ -40,21 +40,17 @@ use Rattle.dc_affine.proofs.Fits.{coef_fits, fits-negated}
 use Rattle.dc_affine.proofs.Units.{read_value, length-units}
 
 -- ---- crossed and joined lists, mapped
-map-++ : {A B : Type 0} (f : A → B) (xs ys : List A) → map f (xs ++ ys) ≡ map f xs ++ map f ys
-map-++ f [] ys = refl
-map-++ f (x ∷ xs) ys = ap (λ z. f x ∷ z) (map-++ f xs ys)
-
 map-after : {A B : Type 0} (f : A → B) (x : List A) (gs : List (List A)) → map (map f) (after x gs) ≡ after (map f x) (map (map f) gs)
 map-after f x [] = refl
-map-after f x (g ∷ gs) = ap₂ ◌∷◌ (map-++ f x g) (map-after f x gs)
+map-after f x (g ∷ gs) = ap₂ ◌∷◌ (map-append f x g) (map-after f x gs)
 
 map-crossed : {A B : Type 0} (f : A → B) (xs gs : List (List A)) → map (map f) (crossed xs gs) ≡ crossed (map (map f) xs) (map (map f) gs)
 map-crossed f [] gs = refl
-map-crossed f (x ∷ xs) gs = map-++ (map f) (after x gs) (crossed xs gs) ∙ ap₂ ◌++◌ (map-after f x gs) (map-crossed f xs gs)
+map-crossed f (x ∷ xs) gs = map-append (map f) (after x gs) (crossed xs gs) ∙ ap₂ ◌++◌ (map-after f x gs) (map-crossed f xs gs)
 
 map-joined : (n : ℕ) (b : Bool) (x y : List (List Fact)) → map (map (atom_of n)) (joined b x y) ≡ combined b (map (map (atom_of n)) x) (map (map (atom_of n)) y)
 map-joined n true x y = map-crossed (atom_of n) x y
-map-joined n false x y = map-++ (map (atom_of n)) x y
+map-joined n false x y = map-append (map (atom_of n)) x y
 
 abbrev pub atoms : ℕ → List (List Fact) → List (List Atom)
 atoms n fs = map (map (atom_of n)) fs

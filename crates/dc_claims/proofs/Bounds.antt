@@ -1,13 +1,12 @@
 -- A run of new costs at most a certified threshold more than a run of old.
 use Rattle.std.specs.Prelude.{◌≡◌, ℕ, zero, suc, ◌+◌, ◌≤◌, ◌<◌, ◌-◌, Bool, true, false, ◌&&◌, ◌||◌, List, [], ◌∷◌, ◌++◌, map, length, replicate, slice_index_or, ℤ, pos, negsuc, ◌+ℤ◌, ◌-ℤ◌, ◌*ℤ◌, neg_ℤ, ◌≤ℤ◌, int_le}
 use Rattle.std.specs.List.{range_with_len, AllByRecursion}
-use Rattle.std.proofs.lemmas.List.Elements.{recursion_from_All}
 use Rattle.std.proofs.Common.{refl, sym, ◌∙◌, ap, ap₂, subst, arith, length-append}
 use Rattle.std.proofs.lemmas.List.{length-replicate}
 use Rattle.std.proofs.lemmas.Int.{ints}
-use Rattle.dc_math.specs.Members.{Among, head, tail}
+use Rattle.dc_math.specs.Members.{Among, head, tail, each-weaker}
 use Rattle.dc_math.specs.Integers.{0≤ℤ-*ℤ}
-use Rattle.dc_math.specs.WholeVectors.{dot_ℤ}
+use Rattle.dc_math.specs.WholeVectors.{dot_ℤ-longer}
 use Rattle.dc_math.specs.Rational.{ℚ, ◌+ℚ◌, ◌-ℚ◌, of_ℤ, of_ℤ-+ℤ, ◌≤ℚ◌, sub-≤ℚ, NonNegative, NonNegative-+ℚ, NonNegative-*ℚ}
 use Rattle.dc_math.specs.RationalRing.{ring, reads, read_nat}
 use Rattle.dc_math.specs.Linear.{from₁, from₂, from₃, times, follows}
@@ -29,6 +28,7 @@ use Rattle.dc_template.specs.Templates.{mono_values}
 use Rattle.dc_points.specs.Points.{whole_point}
 use Rattle.dc_points.proofs.Whole.{whole_points_meet}
 use Rattle.dc_template.proofs.Listed.{are_monomials}
+use Rattle.dc_template.proofs.Values.{mono_values-longer}
 use Rattle.dc_poly.specs.Monomials.{IsWithin}
 use Rattle.dc_affine.proofs.FormLaws.{and_both}
 use Rattle.dc_system.specs.Shapes.{IsWellFormed}
@@ -70,21 +70,6 @@ dot_positive (x ∷ xs) (y ∷ ys) h k = NonNegative-+ℚ _ _ (NonNegative-*ℚ 
 each_made : (f : ℕ → ℚ) (a n : ℕ) → ((i : ℕ) → i < a + n → NonNegative (f i)) → AllByRecursion NonNegative (map f (range_with_len a n))
 each_made f a zero h = tt
 each_made f a (suc n) h = (h a (omega arith), each_made f (a + 1) n (λ i l. h i (omega arith)))
-
--- ---- monomials that mention no more places than there are
-mono_more : (m : Exponents) (x y : List ℤ) → length m ≤ length x → mono_value m (x ++ y) ≡ mono_value m x
-mono_more [] x y l = refl
-mono_more (e ∷ m) [] y l = absurd (omega arith)
-mono_more (e ∷ m) (a ∷ x) y l = ap (λ v. power a e *ℤ v) (mono_more m x y (omega arith))
-
-monos_more : (ms : List Exponents) (x y : List ℤ) → AllByRecursion (λ m. length m ≤ length x) ms → mono_values ms (x ++ y) ≡ mono_values ms x
-monos_more [] x y h = refl
-monos_more (m ∷ ms) x y h = ap₂ (λ v vs. of_ℤ v ∷ vs) (mono_more m x y h.0) (monos_more ms x y h.1)
-
-dot-more : (cs x y : List ℤ) → length cs ≤ length x → dot_ℤ cs (x ++ y) ≡ dot_ℤ cs x
-dot-more [] x y l = refl
-dot-more (c ∷ cs) [] y l = absurd (omega arith)
-dot-more (c ∷ cs) (a ∷ x) y l = ap (λ v. c *ℤ a +ℤ v) (dot-more cs x y (omega arith))
 
 all-append : (gs hs : List Atom) (x : List ℤ) → all_hold gs x ≡ true → all_hold hs x ≡ true → all_hold (gs ++ hs) x ≡ true
 all-append [] hs x h k = k
@@ -145,11 +130,7 @@ module _ (p : Pair) (d k : ℕ) (t : ℚ) (φ χ : Potential) (multipliers : Mul
   -- ---- along the paths of both programs
   module _ (pair : IsPair p) where
     padded : (side : Side) → AllByRecursion (λ m. length m ≤ (system_of p side).vars) (monomials_at p d side)
-    padded side = each_within (system_of p side).vars (monomials_at p d side) (recursion_from_All _ _ (are_monomials (system_of p side).vars d).only)
-      where
-        each_within : (n : ℕ) (ms : List Exponents) → AllByRecursion (IsWithin n d) ms → AllByRecursion (λ m. length m ≤ n) ms
-        each_within n [] h = tt
-        each_within n (m ∷ ms) h = ((let e = h.0.places in omega arith), each_within n ms h.1)
+    padded side = each-weaker (IsWithin (system_of p side).vars d) (λ m. length m ≤ (system_of p side).vars) (λ m h. let e = h.places in omega arith) (monomials_at p d side) (are_monomials (system_of p side).vars d).only
 
     narrow : (side : Side) (l : ℕ) → AllByRecursion (IsAtom (system_of p side).vars) (atoms_at p side l)
     narrow New l = atoms_in _ l p.new_atoms pair.new.each
@@ -163,11 +144,11 @@ module _ (p : Pair) (d k : ℕ) (t : ℚ) (φ χ : Potential) (multipliers : Mul
     widened n [] x z w l h = refl
     widened n (a ∷ gs) x z w l h =
         let b = and_both (holds_at a x) (all_hold gs x) h in
-        ap₂ ◌&&◌ (ap (λ v. int_le (pos 0) (a.c0 +ℤ v)) (dot-more a.coefs x (z ∷ []) (subst (λ i. length a.coefs ≤ i) (sym l) w.0.few)) ∙ b.0) (widened n gs x z w.1 l b.1)
+        ap₂ ◌&&◌ (ap (λ v. int_le (pos 0) (a.c0 +ℤ v)) (dot_ℤ-longer a.coefs x (z ∷ []) (subst (λ i. length a.coefs ≤ i) (sym l) w.0.few)) ∙ b.0) (widened n gs x z w.1 l b.1)
 
     same_value : (side : Side) (f : Potential) (l : ℕ) (x : State) (z : ℤ) → length x ≡ (system_of p side).vars → potential_value p d side f l (at x z) ≡ potential_value p d side f l x
     same_value side f l x z h =
-        ap (λ v. dot (made (length (monomials_at p d side)) (f l)) v) (monos_more (monomials_at p d side) x (z ∷ []) (subst (λ i. AllByRecursion (λ m. length m ≤ i) (monomials_at p d side)) (sym h) (padded side)))
+        ap (λ v. dot (made (length (monomials_at p d side)) (f l)) v) (mono_values-longer (monomials_at p d side) x (z ∷ []) (subst (λ i. AllByRecursion (λ m. length m ≤ i) (monomials_at p d side)) (sym h) (padded side)))
 
     -- at a state that meets an edge's source, and passes its guard
     along_positive : (side : Side) (n : ℕ) (x y : State) (z c : ℤ) → n < length (system_of p side).edges → Step (edge_at (system_of p side) n) x z c y → length x ≡ (system_of p side).vars

@@ -4,7 +4,7 @@ use Rattle.std.specs.List.{AllByRecursion, range_with_len, list_all}
 use Rattle.std.proofs.Common.{◌∙◌, ap, subst, arith, length-append}
 use Rattle.std.proofs.lemmas.List.{length-take-le, length-map}
 use Rattle.std.proofs.lemmas.List.Elements.{All-from_recursion}
-use Rattle.dc_math.specs.Members.{each_all, each-++, each-map, each-flat_map, each-range}
+use Rattle.dc_math.specs.Members.{each_all, each_at, each-++, each-map, each-flat_map, each-range}
 use Rattle.dc_math.specs.Rational.{ℚ, neg_ℚ}
 use Rattle.dc_syntax.specs.declared.tree.Side.{Side}
 use Rattle.dc_syntax.specs.declared.tree.Side.TheVariants.{New, Old}
@@ -16,6 +16,7 @@ use Rattle.dc_affine.specs.Atoms.{IsAtom}
 use Rattle.dc_system.specs.declared.edges.Edge.{Edge}
 use Rattle.dc_system.specs.Shapes.{IsForm, IsEdge, IsWithin, IsWellFormed}
 use Rattle.dc_handelman.proofs.Values.{all_products}
+use Rattle.dc_poly.specs.Monomials.{IsWithin as IsMonomial}
 use Rattle.dc_template.proofs.Listed.{are_monomials}
 use Rattle.dc_claims.specs.Duties.{Pair, system_of, atoms_at, edge_at, no_edge, exit_of, atoms_of, places_of, IsThere, Flags}
 use Rattle.dc_claims.specs.declared.duty.Duty.{Duty}
@@ -101,7 +102,7 @@ module _ (p : Pair) (d k : ℕ) (f : Flags) (fit : IsFit p d k f) where
   few_places (AtEntry n) = let h = (formed New).few_vars in let g = (formed New).params_first in omega arith
 
   pub mono_length : (side : Side) (i : ℕ) → i < length (monomials_at p d side) → length (monomial_at p d side i) ≡ (system_of p side).vars
-  mono_length side i h = ((are_monomials (system_of p side).vars d).only i [] h).places
+  mono_length side i h = (each_at (IsMonomial (system_of p side).vars d) (monomials_at p d side) i [] (are_monomials (system_of p side).vars d).only h).places
 
   -- ---- the parts
   at_exit : (side : Side) (l i : ℕ) → i < length (monomials_at p d side) → Places (system_of p side).vars (when (eqb l (exit_of (system_of p side))) (itself (monomial_at p d side i)))

@@ -1,4 +1,5 @@
-pub mod Placing
+pub mod Insertions
+pub mod Lists
 pub mod MonoLaws
 pub mod Rows
 pub mod Walks

@@ -1,10 +1,10 @@
 -- The monomials of several polynomials are those that have a coefficient in one of them.
-use Rattle.std.specs.Prelude.{◌≡◌, ◌⊎◌, ℕ, zero, suc, ◌<◌, Bool, true, false, cond, List, [], ◌∷◌, length, slice_index_or, All, Any, Contains, pos, ◌+ℤ◌}
+use Rattle.std.specs.Prelude.{◌≡◌, ◌⊎◌, ℕ, zero, suc, ◌<◌, Bool, true, false, cond, List, [], ◌∷◌, length, slice_index_or, All, Any, pos, ◌+ℤ◌}
 use Rattle.std.specs.List.{AllByRecursion}
 use Rattle.std.proofs.Common.{refl, sym, ◌∙◌, ap, subst, arith, inl, inr}
 use Rattle.std.proofs.lemmas.Int.{ints}
 use Rattle.std.proofs.lemmas.List.Elements.{recursion_from_All}
-use Rattle.dc_math.specs.Members.{Among, none_among, among_contained, contained_among}
+use Rattle.dc_math.specs.Members.{Among, head, tail, none_among}
 use Rattle.dc_math.specs.OrderedLists.{Ordered, pairs_ordered}
 use Rattle.dc_poly.specs.declared.monomial.Term.{Term}
 use Rattle.dc_poly.specs.Terms.{Exponents, TermList, coef, same_mono, Ahead, Canonical, Before}
@@ -12,7 +12,7 @@ use Rattle.dc_poly.proofs.Graded.{Before-not}
 use Rattle.dc_poly.proofs.Canon.{same_mono_refl, same_mono_is, coef_ahead}
 use Rattle.dc_coefficients.specs.Monomials.{with_mono, with_monos, with_all, monos_in}
 use Rattle.dc_coefficients.specs.Laws.{HasMono, SomeHas, MonosAreThose}
-use Rattle.dc_coefficients.proofs.Placing.{in-with_mono_new, in-with_mono_old, in_with_mono, ordered-with_all}
+use Rattle.dc_coefficients.proofs.Insertions.{in-with_mono_new, in-with_mono_old, in_with_mono, ordered-with_all}
 use Rattle.dc_coefficients.proofs.Walks.{coef-head, coef-other}
 
 -- ---- of one polynomial
@@ -44,20 +44,20 @@ in_with_monos k (t ∷ p) ms c h = by (in_with_monos k p ms c.2) (in_with_mono t
     by r (inr i) = elim (r i) [ inl n ↦ inl (has_rest t p k c n) | inr j ↦ inr j ]
 
 -- ---- of several
-all_in : (k : Exponents) (ps : List TermList) → SomeHas k ps → Among k (monos_in ps)
-all_in k [] h = absurd h
-all_in k (p ∷ ps) (inl h) = in-with_monos_new k p (monos_in ps) h
-all_in k (p ∷ ps) (inr h) = in-with_monos_old k p (monos_in ps) (all_in k ps h)
+all_in : (k : Exponents) (p : TermList) (ps : List TermList) → Among p ps → HasMono k p → Among k (monos_in ps)
+all_in k p [] i h = none_among i
+all_in k p (q ∷ ps) head h = in-with_monos_new k p (monos_in ps) h
+all_in k p (q ∷ ps) (tail i) h = in-with_monos_old k q (monos_in ps) (all_in k p ps i h)
 
 in_all : (k : Exponents) (ps : List TermList) → AllByRecursion Canonical ps → Among k (monos_in ps) → SomeHas k ps
 in_all k [] c h = none_among h
-in_all k (p ∷ ps) c h = elim (in_with_monos k p (monos_in ps) c.0 h) [ inl n ↦ inl n | inr i ↦ inr (in_all k ps c.1 i) ]
+in_all k (p ∷ ps) c h = elim (in_with_monos k p (monos_in ps) c.0 h) [ inl n ↦ (p, head, n) | inr i ↦ let r = in_all k ps c.1 i in (r.0, tail r.1, r.2) ]
 
 pub monos_are_those : MonosAreThose
 monos_are_those ps c = record {
   in_order = pairs_ordered Before (monos_in ps) (ordered-with_all ps [] tt);
-  each = λ m h. contained_among m (monos_in ps) (all_in m ps h);
-  only = λ m h. in_all m ps c (among_contained m (monos_in ps) h);
+  each = λ m h. all_in m h.0 ps h.1 h.2;
+  only = λ m h. in_all m ps c h;
 }
 
 -- each term of the polynomials has its monomial there

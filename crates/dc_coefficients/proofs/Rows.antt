@@ -3,6 +3,7 @@ use Rattle.std.specs.Prelude.{◌≡◌, ◌≢◌, ℕ, zero, suc, ◌+◌, ◌
 use Rattle.std.proofs.Common.{refl, sym, ◌∙◌, ap, ap₂, subst, arith, inl, inr, eq-eqb}
 use Rattle.std.proofs.lemmas.Bool.{cases_eq, ne_eqb}
 use Rattle.std.proofs.lemmas.Int.{ints}
+use Rattle.std.proofs.lemmas.List.{append_assoc}
 use Rattle.std.proofs.lemmas.List.Sums.{sum_by-cons}
 use Rattle.dc_lp.specs.declared.Entry.{Entry}
 use Rattle.dc_lp.specs.Problems.{coefficient_in, AreEntries, weight, whole_at}
@@ -13,11 +14,7 @@ pub entries_from-++ : (r : ℕ) (ys zs : List ℤ) → entries_from r (ys ++ zs)
 entries_from-++ r [] zs = ap (λ k. entries_from k zs) (let e : r ≡ r + 0 = omega arith in e)
 entries_from-++ r (y ∷ ys) zs =
     ap (λ q. entry_at r y ++ q) (entries_from-++ (suc r) ys zs ∙ ap (λ k. entries_from (suc r) ys ++ entries_from k zs) (let e : suc r + length ys ≡ r + length (y ∷ ys) = omega arith in e))
-    ∙ regroup (entry_at r y) (entries_from (suc r) ys) (entries_from (r + length (y ∷ ys)) zs)
-  where
-    regroup : (a b c : List Entry) → a ++ (b ++ c) ≡ (a ++ b) ++ c
-    regroup [] b c = refl
-    regroup (e ∷ a) b c = ap (λ q. e ∷ q) (regroup a b c)
+    ∙ sym (append_assoc (entry_at r y) (entries_from (suc r) ys) (entries_from (r + length (y ∷ ys)) zs))
 
 -- ---- one number in front
 lower : (r low rows : ℕ) (es : List Entry) → r ≤ low → AreEntries low rows es → AreEntries r rows es

@@ -3,6 +3,7 @@ use Rattle.std.specs.Prelude.{◌≡◌, ◌⊎◌, ℕ, zero, suc, ◌+◌, ◌
 use Rattle.std.specs.List.{AllByRecursion}
 use Rattle.std.proofs.Common.{refl, sym, ◌∙◌, ap, subst, arith, inl, inr}
 use Rattle.std.proofs.lemmas.Int.{ints}
+use Rattle.std.proofs.lemmas.List.{append_assoc, append-nil, get_or_default, length-map, length-take-le, map_push}
 use Rattle.dc_math.specs.Members.{Among, head, tail, each_among, among_cons}
 use Rattle.dc_math.specs.OrderedLists.{Ordered}
 use Rattle.dc_lp.specs.declared.Entry.{Entry}
@@ -12,7 +13,7 @@ use Rattle.dc_poly.proofs.Graded.{Before-not, Before-trans}
 use Rattle.dc_poly.proofs.Canon.{same_mono_refl, same_mono_is, coef_ahead}
 use Rattle.dc_coefficients.specs.Entries.{entry, entry_at, entries_from}
 use Rattle.dc_coefficients.proofs.Rows.{entries_from-++}
-use Rattle.dc_coefficients.proofs.Placing.{any_default}
+use Rattle.dc_coefficients.proofs.Lists.{take_there, drop_there}
 
 -- the terms p are left for the monomials ms: they have no others, and the coefficients of the whole at these
 pub record IsLeft (f : TermList) (ms : List Exponents) (p : TermList) : Type 0 where
@@ -84,50 +85,18 @@ pub record IsWalked (f : TermList) (ms : List Exponents) (r i j : ℕ) (before n
   pub left : IsLeft f (drop i ms) (drop j f)
   pub entries : now ≡ before ++ entries_from r (map (coef f) (take i ms))
 
-drop_there : {A : Type 0} (xs : List A) (i : ℕ) (x : A) → i < length xs → x ≡ slice_index_or xs i x → drop i xs ≡ x ∷ drop (i + 1) xs
-drop_there [] i x l e = absurd (omega arith)
-drop_there (y ∷ xs) zero x l e = ap (λ z. z ∷ xs) (sym e)
-drop_there (y ∷ xs) (suc i) x l e = drop_there xs i x (omega arith) e ∙ ap (λ k. x ∷ drop k (y ∷ xs)) (let q : suc (i + 1) ≡ suc i + 1 = omega arith in q)
-
-take_there : {A : Type 0} (xs : List A) (i : ℕ) (x : A) → i < length xs → x ≡ slice_index_or xs i x → take (i + 1) xs ≡ take i xs ++ x ∷ []
-take_there [] i x l e = absurd (omega arith)
-take_there (y ∷ xs) zero x l e = ap (λ z. z ∷ []) (sym e)
-take_there (y ∷ xs) (suc i) x l e = ap (λ k. take k (y ∷ xs)) (let q : suc i + 1 ≡ suc (i + 1) = omega arith in q) ∙ ap (λ z. y ∷ z) (take_there xs i x (omega arith) e)
-
-length_take : {A : Type 0} (xs : List A) (i : ℕ) → i ≤ length xs → length (take i xs) ≡ i
-length_take [] zero l = refl
-length_take [] (suc i) l = absurd (omega arith)
-length_take (x ∷ xs) zero l = refl
-length_take (x ∷ xs) (suc i) l = ap suc (length_take xs i (omega arith))
-
-map_push : {A B : Type 0} (g : A → B) (xs : List A) (x : A) → map g (xs ++ x ∷ []) ≡ map g xs ++ g x ∷ []
-map_push g [] x = refl
-map_push g (y ∷ xs) x = ap (λ z. g y ∷ z) (map_push g xs x)
-
-length_map : {A B : Type 0} (g : A → B) (xs : List A) → length (map g xs) ≡ length xs
-length_map g [] = refl
-length_map g (x ∷ xs) = ap suc (length_map g xs)
-
 -- the entries of one number more
 one_entry : (g : Exponents → ℤ) (ms : List Exponents) (r i : ℕ) (m : Exponents) (z : ℤ) → i < length ms → m ≡ slice_index_or ms i m → g m ≡ z
     → entries_from r (map g (take (i + 1) ms)) ≡ entries_from r (map g (take i ms)) ++ entry_at (r + i) z
 one_entry g ms r i m z l e v =
     ap (λ q. entries_from r q) (ap (map g) (take_there ms i m l e) ∙ map_push g (take i ms) m)
     ∙ entries_from-++ r (map g (take i ms)) (g m ∷ [])
-    ∙ ap (λ q. entries_from r (map g (take i ms)) ++ q) (last (r + length (map g (take i ms))) (g m) ∙ ap (λ k. entry_at k (g m)) (ap (λ k. r + k) (length_map g (take i ms) ∙ length_take ms i (omega arith))) ∙ ap (entry_at (r + i)) v)
+    ∙ ap (λ q. entries_from r (map g (take i ms)) ++ q) (last (r + length (map g (take i ms))) (g m) ∙ ap (λ k. entry_at k (g m)) (ap (λ k. r + k) (length-map (take i ms) g ∙ length-take-le i ms (omega arith))) ∙ ap (entry_at (r + i)) v)
   where
     last : (k : ℕ) (y : ℤ) → entries_from k (y ∷ []) ≡ entry_at k y
     last k (pos zero) = refl
     last k (pos (suc n)) = refl
     last k (negsuc n) = refl
-
-regroup : {A : Type 0} (a b c : List A) → (a ++ b) ++ c ≡ a ++ (b ++ c)
-regroup [] b c = refl
-regroup (e ∷ a) b c = ap (λ q. e ∷ q) (regroup a b c)
-
-nothing_more : {A : Type 0} (xs : List A) → xs ++ [] ≡ xs
-nothing_more [] = refl
-nothing_more (x ∷ xs) = ap (λ q. x ∷ q) (nothing_more xs)
 
 entry_there : (r : ℕ) (z : ℤ) → ¬ (z ≡ pos 0) → entry_at r z ≡ entry r z ∷ []
 entry_there r (pos zero) n = absurd (n refl)
@@ -135,7 +104,7 @@ entry_there r (pos (suc k)) n = refl
 entry_there r (negsuc k) n = refl
 
 pub walk_starts : (f : TermList) (ms : List Exponents) (r : ℕ) (es : List Entry) → Ordered Before ms → Canonical f → AllByRecursion (λ (t : Term). Among t.mono ms) f → IsWalked f ms r 0 0 es es
-walk_starts f ms r es o c h = record { inside = omega arith; left = record { in_order = o; canonical = c; listed = h; same = λ m i. refl }; entries = sym (nothing_more es) }
+walk_starts f ms r es o c h = record { inside = omega arith; left = record { in_order = o; canonical = c; listed = h; same = λ m i. refl }; entries = sym (append-nil es) }
 
 module _ (f : TermList) (ms : List Exponents) (r i j : ℕ) (before now : List Entry) (h : IsWalked f ms r i j before now) (m : Exponents) (l : i < length ms) (is : m ≡ slice_index_or ms i m) where
   left_here : IsLeft f (m ∷ drop (i + 1) ms) (drop j f)
@@ -148,12 +117,12 @@ module _ (f : TermList) (ms : List Exponents) (r i j : ℕ) (before now : List E
       record {
         inside = omega arith;
         left = s.0;
-        entries = ap (λ z. z ++ entry (r + i) t.coef ∷ []) h.entries ∙ regroup before _ _
+        entries = ap (λ z. z ++ entry (r + i) t.coef ∷ []) h.entries ∙ append_assoc before _ _
             ∙ ap (λ z. before ++ z) (sym (one_entry (coef f) ms r i m t.coef l is s.1 ∙ ap (λ z. entries_from r (map (coef f) (take i ms)) ++ z) (entry_there (r + i) t.coef q.canonical.0)));
       }
 
   passed : coef f m ≡ pos 0 → now ≡ before ++ entries_from r (map (coef f) (take (i + 1) ms))
-  passed z = h.entries ∙ ap (λ q. before ++ q) (sym (one_entry (coef f) ms r i m (pos 0) l is z ∙ nothing_more (entries_from r (map (coef f) (take i ms)))))
+  passed z = h.entries ∙ ap (λ q. before ++ q) (sym (one_entry (coef f) ms r i m (pos 0) l is z ∙ append-nil (entries_from r (map (coef f) (take i ms)))))
 
   pub walk_misses : (t : Term) → j < length f → t ≡ slice_index_or f j t → ¬ (t.mono ≡ m) → IsWalked f ms r (i + 1) j before now
   walk_misses t k e n =
@@ -196,7 +165,7 @@ module _ (f : TermList) (ms : List Exponents) (r i j : ℕ) (before now : List E
       (λ ts. j < length ts → (t u : Term) → t ≡ slice_index_or ts j t → u ≡ slice_index_or ts j u → t.mono ≡ m → k ≡ j + 1 → after ≡ now ++ entry (r + i) u.coef ∷ [] → IsWalked f ms r (i + 1) k before after)
       (sym e)
       (λ b t u a c s n q. walk_becomes f ms r (i + 1) (j + 1) k before (now ++ entry (r + i) t.coef ∷ []) after (walk_hits f ms r i j before now h m l is t b a s) n
-      (q ∙ ap (λ (v : Term). now ++ entry (r + i) v.coef ∷ []) (c ∙ any_default f j u t b ∙ sym a)))
+      (q ∙ ap (λ (v : Term). now ++ entry (r + i) v.coef ∷ []) (c ∙ get_or_default f j u t b ∙ sym a)))
 
   pub step_misses : (ts : TermList) → ts ≡ f → j < length ts → (t : Term) → t ≡ slice_index_or ts j t → ¬ (t.mono ≡ m) → k ≡ j → after ≡ now → IsWalked f ms r (i + 1) k before after
   step_misses ts e = subst

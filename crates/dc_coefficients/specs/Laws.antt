@@ -1,6 +1,7 @@
 -- The laws of monomials and entries.
-use Rattle.std.specs.Prelude.{◌≡◌, ◌≢◌, ◌⊎◌, ℕ, ◌+◌, ◌<◌, List, [], ◌∷◌, length, AllPairs, Contains, ℤ, pos, sum_by, unsigned_abs}
+use Rattle.std.specs.Prelude.{◌≡◌, ◌≢◌, ℕ, ◌+◌, ◌<◌, List, length, AllPairs, ℤ, pos, sum_by, unsigned_abs}
 use Rattle.std.specs.List.{AllByRecursion}
+use Rattle.dc_math.specs.Members.{Among}
 use Rattle.dc_poly.specs.Terms.{Exponents, TermList, coef, Canonical, Before}
 use Rattle.dc_lp.specs.Problems.{coefficient_in, AreEntries, weight, whole_at}
 use Rattle.dc_coefficients.specs.Monomials.{monos_in}
@@ -12,13 +13,12 @@ abbrev pub HasMono : Exponents → TermList → Type 0
 HasMono m p = coef p m ≢ pos 0
 
 abbrev pub SomeHas : Exponents → List TermList → Type 0
-SomeHas m [] = ⊥
-SomeHas m (p ∷ ps) = HasMono m p ⊎ SomeHas m ps
+SomeHas m ps = (p : TermList) × Among p ps × HasMono m p
 
 pub record AreMonos (ps : List TermList) (ms : List Exponents) : Type 0 where
   pub in_order : AllPairs Before ms
-  pub each : (m : Exponents) → SomeHas m ps → Contains ms m
-  pub only : (m : Exponents) → Contains ms m → SomeHas m ps
+  pub each : (m : Exponents) → SomeHas m ps → Among m ms
+  pub only : (m : Exponents) → Among m ms → SomeHas m ps
 
 abbrev pub MonosAreThose : Type 0
 MonosAreThose = (ps : List TermList) → AllByRecursion Canonical ps → AreMonos ps (monos_in ps)

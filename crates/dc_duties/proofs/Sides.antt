@@ -20,7 +20,7 @@ use Rattle.dc_claims.specs.declared.duty.Duty.{Duty}
 use Rattle.dc_claims.specs.declared.duty.Duty.TheVariants.{Along, AtExit, AtEntry}
 use Rattle.dc_affine.specs.Atoms.{IsAtom}
 use Rattle.dc_poly.specs.Terms.{Exponents}
-use Rattle.dc_coefficients.proofs.Placing.{any_default}
+use Rattle.std.proofs.lemmas.List.{get_or_default}
 use Rattle.dc_claims.specs.Parts.{when, itself, at_inputs, bound_part, part_along, part_at, part_at_entry, part_at_exit, rest_of}
 use Rattle.dc_claims.specs.Plans.{IsPair, IsPlan, AreAtoms, IsCase}
 use Rattle.dc_claims.proofs.Fits.{all_set, atoms_fit, few_places, pair_fits, is_edge, is_within}
@@ -152,7 +152,7 @@ all_places n (u ∷ us) h = (h.0.has_places, all_places n us h.1)
 
 -- ---- an element of a list that is known by its parts
 pub indexed : {A : Type 0} (xs ys : List A) (i : ℕ) (x d : A) → xs ≡ ys → i < length ys → x ≡ slice_index_or xs i x → x ≡ slice_index_or ys i d
-indexed xs ys i x d e l h = h ∙ ap (λ zs. slice_index_or zs i x) e ∙ any_default ys i x d l
+indexed xs ys i x d e l h = h ∙ ap (λ zs. slice_index_or zs i x) e ∙ get_or_default ys i x d l
 
 -- ---- what is no part of a duty, and what is
 pub entry_bound : (p : Pair) (o : Duty) (n i : ℕ) → n ≡ places_of p o → o ≡ AtEntry i → constant_of (pos 1) n ≡ bound_part p o

@@ -2,10 +2,11 @@
 use Rattle.std.specs.Prelude.{◌≡◌, ℕ, zero, suc, ◌+◌, ◌<◌, ◌≤◌, List, [], ◌∷◌, ◌++◌, map, flat_map, length, slice_index_or}
 use Rattle.std.specs.List.{AllByRecursion, range_with_len}
 use Rattle.std.proofs.Common.{refl, sym, ◌∙◌, ap, subst, arith}
-use Rattle.dc_math.specs.Members.{each-++}
+use Rattle.dc_math.specs.Members.{each_at, each-++}
 use Rattle.dc_syntax.specs.declared.tree.Side.{Side}
 use Rattle.dc_syntax.specs.declared.tree.Side.TheVariants.{New, Old}
 use Rattle.dc_poly.specs.Terms.{Polynomial, TermList}
+use Rattle.dc_poly.specs.Monomials.{IsWithin}
 use Rattle.dc_template.proofs.Listed.{are_monomials}
 use Rattle.dc_coefficients.specs.Monomials.{all_terms}
 use Rattle.dc_claims.specs.declared.duty.Unknown.{Unknown}
@@ -19,7 +20,7 @@ use Rattle.dc_duties.specs.Sizes.{IsCoefficientOf}
 use Rattle.dc_duties.specs.Tasks.{IsUnknown}
 
 pub coefficient_of : (p : Pair) (d : ℕ) (side : Side) (i : ℕ) → d ≤ 3 → i < length (monomials_at p d side) → IsCoefficientOf p side (monomial_at p d side i)
-coefficient_of p d side i h l = let w = (are_monomials (system_of p side).vars d).only i [] l in record { long = w.places; low = (let a = w.low in omega arith) }
+coefficient_of p d side i h l = let w = each_at (IsWithin (system_of p side).vars d) (monomials_at p d side) i [] (are_monomials (system_of p side).vars d).only l in record { long = w.places; low = (let a = w.low in omega arith) }
 
 -- ---- each unknown of the list is one
 module _ (t : Task) where

@@ -8,7 +8,7 @@ use Rattle.std.proofs.lemmas.Int.{ints}
 use Rattle.std.proofs.lemmas.List.{get_or_past}
 use Rattle.std.proofs.lemmas.List.Elements.{recursion_from_All}
 use Rattle.std.proofs.lemmas.List.Sums.{sum_by-cons, sum_by-append}
-use Rattle.dc_math.specs.Members.{each_all, each-weaker, each-++, each-map, each-flat_map, get_each}
+use Rattle.dc_math.specs.Members.{each_all, each_at, each-weaker, each-++, each-map, each-flat_map, get_each}
 use Rattle.dc_math.specs.OrderedLists.{Ordered}
 use Rattle.dc_syntax.specs.declared.tree.Side.{Side}
 use Rattle.dc_syntax.specs.declared.tree.Side.TheVariants.{New, Old}
@@ -21,6 +21,7 @@ use Rattle.dc_coefficients.specs.Monomials.{monos_in}
 use Rattle.dc_coefficients.proofs.MonoLaws.{monos_ordered}
 use Rattle.dc_handelman.specs.Products.{factor_weight}
 use Rattle.dc_handelman.proofs.Values.{all_products}
+use Rattle.dc_poly.specs.Monomials.{IsWithin}
 use Rattle.dc_template.proofs.Listed.{are_monomials}
 use Rattle.dc_frac.specs.Fits.{IsSmall}
 use Rattle.dc_system.specs.declared.edges.Edge.{Edge}
@@ -103,7 +104,7 @@ module _ (p : Pair) (d k : ℕ) (f : Flags) (fit : IsFit p d k f) where
   low side i = by (cases_lt i (length (monomials_at p d side)))
     where
       by : (i < length (monomials_at p d side)) ⊎ (length (monomials_at p d side) ≤ i) → degree (monomial_at p d side i) ≤ 3
-      by (inl l) = let a = ((are_monomials (system_of p side).vars d).only i [] l).low in let b = fit.degree in omega arith
+      by (inl l) = let a = (each_at (IsWithin (system_of p side).vars d) (monomials_at p d side) i [] (are_monomials (system_of p side).vars d).only l).low in let b = fit.degree in omega arith
       by (inr l) = subst (λ (m : Exponents). degree m ≤ 3) (sym (get_or_past (monomials_at p d side) i [] l)) (omega arith)
 
   one_light : (b : Bool) (m : Exponents) → weight (when b (itself m)) ≤ 1

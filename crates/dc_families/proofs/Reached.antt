@@ -2,7 +2,7 @@
 use Rattle.std.specs.Prelude.{◌≡◌, ℕ, zero, suc, ◌-◌, ◌≤◌, Bool, true, false, ◌||◌, List, [], ◌∷◌, ◌++◌, take, length, replicate, ℤ, pos, ◌+ℤ◌, ◌*ℤ◌, int_le}
 use Rattle.std.proofs.Common.{refl, sym, ◌∙◌, ap, subst, arith, length-append}
 use Rattle.dc_math.specs.Members.{Among, head, tail, each_among}
-use Rattle.dc_math.specs.WholeVectors.{dot_ℤ}
+use Rattle.dc_math.specs.WholeVectors.{dot_ℤ, dot_ℤ-longer}
 use Rattle.dc_math.specs.WholeRing.{ring, reads, read_nat, same_form}
 use Rattle.dc_syntax.specs.Value.{State}
 use Rattle.dc_affine.specs.declared.atom.Atom.{Atom}
@@ -25,24 +25,17 @@ use Rattle.dc_families.specs.Laws.{start_at, ReachedMeet, CandidatesAreOver}
 use Rattle.dc_families.proofs.Lists.{differ}
 use Rattle.dc_families.proofs.Tests.{IsOne, is_never, is_bounded, candidate_is, everything_is}
 
--- ---- atoms that mention no more places than there are
-dot-more : (n : ℕ) (cs x y : List ℤ) → length cs ≤ n → n ≤ length x → dot_ℤ cs (x ++ y) ≡ dot_ℤ cs x
-dot-more n [] x y l m = refl
-dot-more n (c ∷ cs) [] y l m = absurd (omega arith)
-dot-more zero (c ∷ cs) (x ∷ xs) y l m = absurd (omega arith)
-dot-more (suc n) (c ∷ cs) (x ∷ xs) y l m = ap (λ d. c *ℤ x +ℤ d) (dot-more n cs xs y (omega arith) (omega arith))
-
--- zeros behind a point are nothing
-dot-zeros_alone : (cs : List ℤ) (n : ℕ) → dot_ℤ cs (replicate n (pos 0)) ≡ pos 0
-dot-zeros_alone [] n = refl
-dot-zeros_alone (c ∷ cs) zero = refl
-dot-zeros_alone (c ∷ cs) (suc n) = shape c _ (dot-zeros_alone cs n)
+-- ---- zeros behind a point are nothing
+pub dot-nothing : (cs : List ℤ) (n : ℕ) → dot_ℤ cs (replicate n (pos 0)) ≡ pos 0
+dot-nothing [] n = refl
+dot-nothing (c ∷ cs) zero = refl
+dot-nothing (c ∷ cs) (suc n) = shape c _ (dot-nothing cs n)
   where
     shape : (c d : ℤ) → d ≡ pos 0 → c *ℤ pos 0 +ℤ d ≡ pos 0
     shape c d e = rw e (ring (c ∷ []) (λ ρ p. simp (p, read_nat ρ, reads) (same_form _ _ _ refl)))
 
 dot-zeros : (cs v : List ℤ) (n : ℕ) → dot_ℤ cs (v ++ replicate n (pos 0)) ≡ dot_ℤ (take (length v) cs) v
-dot-zeros cs [] n = dot-zeros_alone cs n
+dot-zeros cs [] n = dot-nothing cs n
 dot-zeros [] (x ∷ v) n = refl
 dot-zeros (c ∷ cs) (x ∷ v) n = ap (λ d. c *ℤ x +ℤ d) (dot-zeros cs v n)
 
@@ -56,7 +49,7 @@ Met J l x = (a : Atom) → J l a ≡ true → holds_at a x ≡ true
 
 module _ (s : Graph) (cases : List (List Atom)) (J : Family) (w : IsGraph s) (over : IsOver s.vars J) (inductive : IsInductive s cases J) where
   wider : (a : Atom) (x : State) (z : ℤ) → length a.coefs ≤ s.vars → length x ≡ s.vars → holds_at a x ≡ true → holds_at a (at x z) ≡ true
-  wider a x z l m h = ap (λ d. int_le (pos 0) (a.c0 +ℤ d)) (dot-more s.vars a.coefs x (z ∷ []) l (omega arith)) ∙ h
+  wider a x z l m h = ap (λ d. int_le (pos 0) (a.c0 +ℤ d)) (dot_ℤ-longer a.coefs x (z ∷ []) (omega arith)) ∙ h
 
   shape : (e : Edge) → Among e s.edges → IsEdge s.vars e
   shape e m = each_among (IsEdge s.vars) w.edges m

@@ -5,7 +5,7 @@ use Rattle.std.proofs.Common.{refl, sym, ap, ap₂, ◌∙◌, subst, arith}
 use Rattle.std.proofs.lemmas.Bool.{leb-true, le-leb}
 use Rattle.std.proofs.lemmas.List.{map-append, length-map}
 use Rattle.std.proofs.lemmas.Int.{ints}
-use Rattle.dc_math.specs.WholeVectors.{dot_ℤ}
+use Rattle.dc_math.specs.WholeVectors.{dot_ℤ, dot_ℤ-longer}
 use Rattle.dc_math.specs.WholeRing.{ring, reads, read_nat, same_form}
 use Rattle.dc_poly.specs.Terms.{coef, degree_of, Polynomial}
 use Rattle.dc_poly.specs.Sums.{zeros, values, composed as composed_terms, places_of}
@@ -26,7 +26,7 @@ use Rattle.dc_system.proofs.AfterValues.{value-weighted, Places-weighted, Canoni
 use Rattle.dc_system.proofs.Crossings.{IsFlat, after_flat, Made}
 use Rattle.dc_points.specs.Points.{Point, left_at, MeetsAt, MeetsAll, whole_point}
 use Rattle.dc_families.proofs.False.{image, left_image}
-use Rattle.dc_families.proofs.Reached.{long-replicate}
+use Rattle.dc_families.proofs.Reached.{dot-nothing, long-replicate}
 
 -- ---- the point after the first edge, with the chosen value in the last place
 abbrev pub onward : ℕ → Edge → Edge
@@ -50,16 +50,11 @@ guard_moved n e p [] h = tt
 guard_moved n e p (a ∷ gs) h = (meets_moved n e p a h.0, guard_moved n e p gs h.1)
 
 -- an atom over the variables does not see the chosen value
-dot-more : (cs x y : List ℤ) → length cs ≤ length x → dot_ℤ cs (x ++ y) ≡ dot_ℤ cs x
-dot-more [] x y l = refl
-dot-more (c ∷ cs) [] y l = absurd (omega arith)
-dot-more (c ∷ cs) (a ∷ x) y l = ap (λ v. c *ℤ a +ℤ v) (dot-more cs x y (omega arith))
-
 pub over_moved : (n : ℕ) (e : Edge) (p : Point) (a : Atom) → length a.coefs ≤ length e.update → left_at a (moved n e p) ≡ left_at (atom_after n e a) p
 over_moved n e p a h =
     ap (λ v. a.c0 *ℤ p.denominator +ℤ v)
     (ap (dot_ℤ a.coefs) (map-append _ e.update (chosen n ∷ []))
-    ∙ dot-more a.coefs (affine_parts n p.denominator p.numbers e.update) _ (let q = length-map e.update (affine_part n p.denominator p.numbers) in omega arith))
+    ∙ dot_ℤ-longer a.coefs (affine_parts n p.denominator p.numbers e.update) _ (let q = length-map e.update (affine_part n p.denominator p.numbers) in omega arith))
     ∙ sym (left_image n p e a)
 
 -- ---- at whole points it is the state after the edge
@@ -81,21 +76,13 @@ forms_at_values [] vs xs = refl
 forms_at_values (p ∷ ps) vs xs = ap₂ ◌∷◌ (value-composed (places_of vs) p.terms vs xs) (forms_at_values ps vs xs)
 
 -- ---- atoms that have equal values are equal
-dot_zeros : (cs : List ℤ) (n : ℕ) → dot_ℤ cs (replicate n (pos 0)) ≡ pos 0
-dot_zeros [] n = refl
-dot_zeros (c ∷ cs) zero = refl
-dot_zeros (c ∷ cs) (suc n) = shape c _ (dot_zeros cs n)
-  where
-    shape : (c d : ℤ) → d ≡ pos 0 → c *ℤ pos 0 +ℤ d ≡ pos 0
-    shape c d e = rw e (ring (c ∷ []) (λ ρ p. simp (p, read_nat ρ, reads) (same_form _ _ _ refl)))
-
 same_dots : (n : ℕ) (cs ds : List ℤ) → length cs ≡ n → length ds ≡ n → ((xs : List ℤ) → length xs ≡ n → dot_ℤ cs xs ≡ dot_ℤ ds xs) → cs ≡ ds
 same_dots n [] [] l m h = refl
 same_dots n [] (d ∷ ds) l m h = absurd (omega arith)
 same_dots n (c ∷ cs) [] l m h = absurd (omega arith)
 same_dots zero (c ∷ cs) (d ∷ ds) l m h = absurd (omega arith)
 same_dots (suc n) (c ∷ cs) (d ∷ ds) l m h =
-    ap₂ ◌∷◌ (first c d _ _ (dot_zeros cs n) (dot_zeros ds n) (h (pos 1 ∷ replicate n (pos 0)) (ap suc (long-replicate n))))
+    ap₂ ◌∷◌ (first c d _ _ (dot-nothing cs n) (dot-nothing ds n) (h (pos 1 ∷ replicate n (pos 0)) (ap suc (long-replicate n))))
     (same_dots n cs ds (omega arith) (omega arith) (λ xs k. rest c d _ _ (h (pos 0 ∷ xs) (ap suc k))))
   where
     first : (c d x y : ℤ) → x ≡ pos 0 → y ≡ pos 0 → c *ℤ pos 1 +ℤ x ≡ d *ℤ pos 1 +ℤ y → c ≡ d
@@ -106,7 +93,7 @@ same_dots (suc n) (c ∷ cs) (d ∷ ds) l m h =
 
 same_atoms : (n : ℕ) (a b : Atom) → length a.coefs ≡ n → length b.coefs ≡ n → ((xs : List ℤ) → length xs ≡ n → atom_value a xs ≡ atom_value b xs) → a ≡ b
 same_atoms n a b l m h =
-    let c : a.c0 ≡ b.c0 = constants a.c0 b.c0 _ _ (dot_zeros a.coefs n) (dot_zeros b.coefs n) (h (replicate n (pos 0)) (long-replicate n)) in
+    let c : a.c0 ≡ b.c0 = constants a.c0 b.c0 _ _ (dot-nothing a.coefs n) (dot-nothing b.coefs n) (h (replicate n (pos 0)) (long-replicate n)) in
     ap₂ (λ c cs. record { c0 = c; coefs = cs }) c (same_dots n a.coefs b.coefs l m (λ xs k. cancel a.c0 b.c0 _ _ c (h xs k)))
   where
     constants : (c d x y : ℤ) → x ≡ pos 0 → y ≡ pos 0 → c +ℤ x ≡ d +ℤ y → c ≡ d

@@ -4,8 +4,7 @@ use Rattle.std.specs.Prelude.{◌≡◌, ℕ, ◌+◌, ◌-◌, ◌≤◌, List,
 use Rattle.std.specs.List.{AllByRecursion}
 use Rattle.std.proofs.Common.{refl, sym, ap, ap₂, ◌∙◌, subst, arith, inl, inr, length-append}
 use Rattle.std.proofs.lemmas.List.{length-map, get_or-set_other}
-use Rattle.std.proofs.lemmas.List.Elements.{recursion_from_All}
-use Rattle.dc_math.specs.Members.{Among, each-++, each_left, each_right, each-map, each_among, among_each, among_at, at_among}
+use Rattle.dc_math.specs.Members.{Among, each-weaker, each-++, each_left, each_right, each-map, each_among, among_each, among_at, at_among}
 use Rattle.dc_math.specs.Rational.{ℚ, ◌+ℚ◌, ◌-ℚ◌, of_ℤ, of_ℤ-+ℤ}
 use Rattle.dc_math.specs.RationalRing.{ring, reads, same_form}
 use Rattle.dc_math.specs.Vectors.{dot}
@@ -28,6 +27,7 @@ use Rattle.dc_system.proofs.Folds.{was}
 use Rattle.dc_system.proofs.Points.{values-++}
 use Rattle.dc_template.specs.Templates.{mono_values, template_value}
 use Rattle.dc_template.proofs.Listed.{are_monomials}
+use Rattle.dc_template.proofs.Values.{mono_values-longer}
 use Rattle.dc_points.specs.Points.{Point, MeetsAt, MeetsAll, IsDead}
 use Rattle.dc_families.specs.Graphs.{graph_of}
 use Rattle.dc_families.specs.Families.{family_of}
@@ -48,15 +48,6 @@ use Rattle.dc_folding.proofs.Moved.{moved, moved_meets, value_moved, update_is}
 use Rattle.dc_folding.proofs.Induction as fold
 
 -- ---- potentials do not see the chosen value
-mono_more : (m : Exponents) (x y : List ℤ) → length m ≤ length x → mono_value m (x ++ y) ≡ mono_value m x
-mono_more [] x y l = refl
-mono_more (e ∷ m) [] y l = absurd (omega arith)
-mono_more (e ∷ m) (a ∷ x) y l = ap (λ v. power a e *ℤ v) (mono_more m x y (omega arith))
-
-monos_more : (n d : ℕ) (ms : List Exponents) (x y : List ℤ) → n ≤ length x → AllByRecursion (IsWithin n d) ms → mono_values ms (x ++ y) ≡ mono_values ms x
-monos_more n d [] x y l h = refl
-monos_more n d (m ∷ ms) x y l h = ap₂ (λ v vs. of_ℤ v ∷ vs) (mono_more m x y (let e = h.0.places in omega arith)) (monos_more n d ms x y l h.1)
-
 -- the value of a potential of degree d over n variables
 abbrev pub potential : ℕ → ℕ → Potential → ℕ → List ℤ → ℚ
 potential n d f k x = template_value (row_of (length (monomials_of n d)) (f k)) (monomials_of n d) x
@@ -64,7 +55,7 @@ potential n d f k x = template_value (row_of (length (monomials_of n d)) (f k)) 
 potential_more : (n d : ℕ) (f : Potential) (k : ℕ) (x y : List ℤ) → length x ≡ n → potential n d f k (x ++ y) ≡ potential n d f k x
 potential_more n d f k x y l =
     ap (dot (row_of (length (monomials_of n d)) (f k)))
-    (monos_more n d (monomials_of n d) x y (omega arith) (recursion_from_All _ _ (are_monomials n d).only))
+    (mono_values-longer (monomials_of n d) x y (each-weaker (IsWithin n d) (λ m. length m ≤ length x) (λ m h. let e = h.places in omega arith) (monomials_of n d) (are_monomials n d).only))
 
 abbrev paid : Edge → List ℤ → ℚ
 paid e x = of_ℤ (value e.cost.terms x)

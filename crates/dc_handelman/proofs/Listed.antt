@@ -3,8 +3,7 @@ use Rattle.std.specs.Prelude.{◌≡◌, ◌⊎◌, ℕ, zero, suc, ◌+◌, ◌
 use Rattle.std.specs.List.{AllByRecursion}
 use Rattle.std.proofs.Common.{ap, subst, arith, inl, inr}
 use Rattle.std.proofs.lemmas.Bool.{cases_lt}
-use Rattle.std.proofs.lemmas.List.Elements.{All-from_recursion, recursion_from_All}
-use Rattle.dc_math.specs.Members.{Among, head, each-weaker, each-++, each-map_weaker, each_among, among-left, among-right, among_image, among_contained, contained_among}
+use Rattle.dc_math.specs.Members.{Among, head, each-weaker, each-++, each-map_weaker, each_among, among-left, among-right, among_image}
 use Rattle.dc_handelman.specs.Choices.{Choice, Rises, IsChoice, Before, fewer, level, AreChoices, AreFixed, widened, of_size, below, choices_of}
 use Rattle.dc_math.specs.OrderedLists.{Ordered, ordered-append, ordered-map, same_members, pairs_ordered, ordered_pairs}
 use Rattle.dc_handelman.proofs.Orders.{strict}
@@ -107,8 +106,8 @@ below-every n (suc k) c l h = by (below-every n k c l) (cases_lt (length c) k)
 -- ---- the two laws
 pub are_choices : (n k : ℕ) → AreChoices n k (choices_of n k)
 are_choices n k = record {
-  only = All-from_recursion (IsChoice n k) (choices_of n k) (each-weaker (IsBelow n (suc k)) (IsChoice n k) (λ c h. record { few = (let l = h.few in omega arith); rises = h.rises }) (choices_of n k) (below-only n (suc k)));
-  each = (λ c h. contained_among c (choices_of n k) (below-every n (suc k) c h.rises (let l = h.few in omega arith)));
+  only = each-weaker (IsBelow n (suc k)) (IsChoice n k) (λ c h. record { few = (let l = h.few in omega arith); rises = h.rises }) (choices_of n k) (below-only n (suc k));
+  each = λ c h. below-every n (suc k) c h.rises (let l = h.few in omega arith);
   in_order = pairs_ordered Before (choices_of n k) (below-ordered n (suc k));
 }
 
@@ -116,4 +115,4 @@ pub are_fixed : AreFixed
 are_fixed n k cs ds h g = same_members Before strict cs ds (ordered_pairs Before cs h.in_order) (ordered_pairs Before ds g.in_order) (within cs ds h g) (within ds cs g h)
   where
     within : (cs ds : List Choice) → AreChoices n k cs → AreChoices n k ds → (c : Choice) → Among c cs → Among c ds
-    within cs ds h g c i = among_contained c ds (g.each c (each_among (IsChoice n k) (recursion_from_All (IsChoice n k) cs h.only) i))
+    within cs ds h g c i = g.each c (each_among (IsChoice n k) h.only i)

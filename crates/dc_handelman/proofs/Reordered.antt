@@ -1,5 +1,5 @@
 -- Products do not depend on the order of their factors.
-use Rattle.std.specs.Prelude.{◌≡◌, ◌⊎◌, ℕ, zero, suc, ◌≤◌, ◌<◌, Bool, true, false, cond, leb, List, [], ◌∷◌, map, length, All, Contains, ℤ, pos, ◌*ℤ◌, ◌≤ℤ◌, refl}
+use Rattle.std.specs.Prelude.{◌≡◌, ◌⊎◌, ℕ, zero, suc, ◌≤◌, ◌<◌, Bool, true, false, cond, leb, List, [], ◌∷◌, map, length, ℤ, pos, ◌*ℤ◌, ◌≤ℤ◌, refl}
 use Rattle.std.specs.List.{AllByRecursion, swap}
 use Rattle.std.specs.List.Sorted.{IsPermutation}
 use Rattle.std.proofs.Common.{sym, ◌∙◌, ap, ap₂, arith, inl, inr, get_or, set}
@@ -7,9 +7,8 @@ use Rattle.std.proofs.lemmas.Bool.{and_parts, leb-true, leb-false}
 use Rattle.std.proofs.lemmas.Int.{ints}
 use Rattle.std.proofs.lemmas.List.{set-get_or}
 use Rattle.std.proofs.lemmas.List.Edits.{swap_is}
-use Rattle.std.proofs.lemmas.List.Elements.{All-from_recursion, recursion_from_All}
 use Rattle.std.proofs.lemmas.List.Sorted.{IsPermutation-refl, IsPermutation-trans, IsPermutation-cons, IsPermutation-middle, IsPermutation-keeps, length_permutation}
-use Rattle.dc_math.specs.Members.{among_image, among_contained, contained_among}
+use Rattle.dc_math.specs.Members.{Among, among_image}
 use Rattle.dc_math.specs.WholeRing.{ring, reads, same_form}
 use Rattle.dc_poly.specs.Terms.{Polynomial, polynomial, value, Canonical, Places}
 use Rattle.dc_poly.specs.Sums.{constant, product_of, constant_of, variable_of, times}
@@ -184,10 +183,10 @@ unfolding sorted
 sorted-rises n [] h = tt
 sorted-rises n (i ∷ c) h = put-rises n 0 i (sorted c) (omega arith) h.0 (sorted-rises n c h.1)
 
-sorted_stands : (n k : ℕ) (c : Choice) → length c ≤ k → All (λ i. i < n) c → Contains (choices_of n k) (sorted c)
+sorted_stands : (n k : ℕ) (c : Choice) → length c ≤ k → AllByRecursion (λ i. i < n) c → Among (sorted c) (choices_of n k)
 sorted_stands n k c l h = (are_choices n k).each (sorted c) (record {
   few = (let q = length_permutation c (sorted c) (sorted-permutes c) in omega arith);
-  rises = sorted-rises n c (recursion_from_All (λ i. i < n) c h);
+  rises = sorted-rises n c h;
 })
 
 pub each_is_sorted : EachIsSorted
@@ -195,9 +194,7 @@ each_is_sorted n k c l h = (sorted c, sorted-permutes c, sorted_stands n k c l h
 
 pub each_product_stands : EachProductStands
 each_product_stands n k hyps c a l h =
-    contained_among (product_at n hyps c) (products_of n hyps k)
-    (among_image (product_at n hyps) (order_is_free n hyps c (sorted c) a (sorted-permutes c))
-    (among_contained (sorted c) (choices_of (length hyps) k) (sorted_stands (length hyps) k c l h)))
+    among_image (product_at n hyps) (order_is_free n hyps c (sorted c) a (sorted-permutes c)) (sorted_stands (length hyps) k c l h)
 
 -- ---- where all atoms hold
 each_holds : (hyps : List Atom) (i : ℕ) (xs : List ℤ) → all_hold hyps xs ≡ true → pos 0 ≤ℤ atom_value (atom_at hyps i) xs
@@ -210,7 +207,7 @@ factors_hold hyps [] xs h = tt
 factors_hold hyps (i ∷ c) xs h = (each_holds hyps i xs h, factors_hold hyps c xs h)
 
 pub hold_together : HoldTogether
-hold_together n k hyps xs a h = All-from_recursion (λ (p : Polynomial). pos 0 ≤ℤ value p.terms xs) (products_of n hyps k) (each (choices_of (length hyps) k))
+hold_together n k hyps xs a h = each (choices_of (length hyps) k)
   where
     each : (cs : List Choice) → AllByRecursion (λ (p : Polynomial). pos 0 ≤ℤ value p.terms xs) (map (product_at n hyps) cs)
     each [] = tt

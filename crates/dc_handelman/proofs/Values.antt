@@ -4,7 +4,7 @@ use Rattle.std.specs.List.{AllByRecursion}
 use Rattle.std.proofs.Common.{sym, ◌∙◌, ap, ap₂, subst, arith}
 use Rattle.std.proofs.Math.Nat.{pow-zero, pow-succ'}
 use Rattle.std.proofs.lemmas.Int.{ints}
-use Rattle.std.proofs.lemmas.List.Elements.{All-from_recursion, recursion_from_All}
+use Rattle.std.proofs.lemmas.List.Elements.{All-from_recursion}
 use Rattle.dc_math.specs.Members.{each-map_weaker}
 use Rattle.dc_math.specs.Integers.{0≤ℤ-*ℤ}
 use Rattle.dc_math.specs.WholeRing.{ring, reads, read_nat, same_form}
@@ -211,7 +211,7 @@ length-forms n (a ∷ hyps) = ap suc (length-forms n hyps)
 pub all_products : (n k : ℕ) (hyps : List Atom) → n ≤ 11 → k ≤ 3 → AllByRecursion (IsAtom n) hyps → All (IsProduct n k) (products_of n hyps k)
 all_products n k hyps f l h =
     All-from_recursion (IsProduct n k) (products_of n hyps k)
-    (each-map_weaker (IsChoice (length hyps) k) (IsProduct n k) (product_at n hyps) one (choices_of (length hyps) k) (recursion_from_All (IsChoice (length hyps) k) (choices_of (length hyps) k) (are_choices (length hyps) k).only))
+    (each-map_weaker (IsChoice (length hyps) k) (IsProduct n k) (product_at n hyps) one (choices_of (length hyps) k) (are_choices (length hyps) k).only)
   where
     one : (c : Choice) → IsChoice (length hyps) k c → IsProduct n k (product_at n hyps c)
     one c i =

@@ -1,6 +1,8 @@
 -- Choices of factors: which numbers may be multiplied, in which order the choices stand, and the
 -- list of them.
-use Rattle.std.specs.Prelude.{◌≡◌, ◌⊎◌, ℕ, zero, suc, ◌≤◌, ◌<◌, List, [], ◌∷◌, ◌++◌, map, length, All, AllPairs, Contains}
+use Rattle.std.specs.Prelude.{◌≡◌, ◌⊎◌, ℕ, zero, suc, ◌≤◌, ◌<◌, List, [], ◌∷◌, ◌++◌, map, length, AllPairs}
+use Rattle.std.specs.List.{AllByRecursion}
+use Rattle.dc_math.specs.Members.{Among}
 
 -- the numbers of the factors of a product, a multiset: they rise, and one may be repeated
 abbrev pub Choice : Type 0
@@ -29,8 +31,8 @@ pub data Before (c d : Choice) : Type 0 where
 -- the choices of at most k numbers below n: these alone, each of them, and in order. The order is
 -- strict, so each stands there once, the empty one first.
 pub record AreChoices (n k : ℕ) (cs : List Choice) : Type 0 where
-  pub only : All (IsChoice n k) cs
-  pub each : (c : Choice) → IsChoice n k c → Contains cs c
+  pub only : AllByRecursion (IsChoice n k) cs
+  pub each : (c : Choice) → IsChoice n k c → Among c cs
   pub in_order : AllPairs Before cs
 
 -- there is one such list

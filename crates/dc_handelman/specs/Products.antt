@@ -1,7 +1,8 @@
 -- Products of affine atoms: as polynomials, and by their values.
-use Rattle.std.specs.Prelude.{◌≡◌, ℕ, suc, ◌*◌, ◌^◌, ◌≤◌, ◌<◌, true, List, [], ◌∷◌, map, length, All, Contains, slice_index_or, ℤ, pos, ◌*ℤ◌, ◌≤ℤ◌}
+use Rattle.std.specs.Prelude.{◌≡◌, ℕ, suc, ◌*◌, ◌^◌, ◌≤◌, ◌<◌, true, List, [], ◌∷◌, map, length, slice_index_or, ℤ, pos, ◌*ℤ◌, ◌≤ℤ◌}
 use Rattle.std.specs.List.{AllByRecursion}
 use Rattle.std.specs.List.Sorted.{IsPermutation}
+use Rattle.dc_math.specs.Members.{Among}
 use Rattle.dc_poly.specs.Terms.{Polynomial, IsPolynomial, degree_of, weight, value}
 use Rattle.dc_poly.specs.Sums.{constant, variable, sum_of, product_of}
 use Rattle.dc_affine.specs.declared.atom.Atom.{Atom}
@@ -79,7 +80,7 @@ StayAboveZero = (n : ℕ) (hyps : List Atom) (c : Choice) (xs : List ℤ) → Al
 abbrev pub HoldTogether : Type 0
 HoldTogether =
     (n k : ℕ) (hyps : List Atom) (xs : List ℤ) → AllByRecursion (IsAtom n) hyps → all_hold hyps xs ≡ true
-    → All (λ (p : Polynomial). pos 0 ≤ℤ value p.terms xs) (products_of n hyps k)
+    → AllByRecursion (λ (p : Polynomial). pos 0 ≤ℤ value p.terms xs) (products_of n hyps k)
 
 -- ---- the order of the factors
 -- a product does not depend on the order of its factors
@@ -89,10 +90,10 @@ OrderIsFree = (n : ℕ) (hyps : List Atom) (c d : Choice) → AllByRecursion (Is
 
 -- at most k numbers below n, in any order, are a choice of the list in another order
 abbrev pub EachIsSorted : Type 0
-EachIsSorted = (n k : ℕ) (c : Choice) → length c ≤ k → All (λ i. i < n) c
-    → (d : Choice) × IsPermutation c d × Contains (choices_of n k) d
+EachIsSorted = (n k : ℕ) (c : Choice) → length c ≤ k → AllByRecursion (λ i. i < n) c
+    → (d : Choice) × IsPermutation c d × Among d (choices_of n k)
 
 -- so the product of at most k of the atoms, in any order, stands among the products
 abbrev pub EachProductStands : Type 0
 EachProductStands = (n k : ℕ) (hyps : List Atom) (c : Choice) → AllByRecursion (IsAtom n) hyps → length c ≤ k
-    → All (λ i. i < length hyps) c → Contains (products_of n hyps k) (product_at n hyps c)
+    → AllByRecursion (λ i. i < length hyps) c → Among (product_at n hyps c) (products_of n hyps k)

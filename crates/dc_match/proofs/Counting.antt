@@ -3,9 +3,11 @@ use Rattle.std.specs.Prelude.{◌≡◌, ℕ, zero, suc, ◌+◌, ◌*◌, ◌<�
 use Rattle.std.specs.List.{AllByRecursion, range_with_len}
 use Rattle.std.proofs.Common.{refl, sym, ◌∙◌, ap, ap₂, arith, length-append}
 use Rattle.std.proofs.lemmas.Bool.{lt-ltb, le-ltb}
-use Rattle.std.proofs.lemmas.List.{length-map}
+use Rattle.std.proofs.lemmas.List.{length-map, take_more}
 use Rattle.std.proofs.lemmas.List.Sums.{sum_by-cons, sum_by_push}
 use Rattle.std.proofs.lemmas.List.FromFn.{length-range_with_len, length-map-range_with_len}
+use Rattle.std.proofs.lemmas.Grind.{flat_map-append}
+use Rattle.dc_coefficients.proofs.Lists.{flat_map_one}
 use Rattle.dc_math.specs.Members.{each-++}
 use Rattle.dc_syntax.specs.declared.tree.Side.{Side}
 use Rattle.dc_syntax.specs.declared.tree.Side.TheVariants.{New, Old}
@@ -26,7 +28,6 @@ use Rattle.dc_duties.specs.declared.plan.Programs.{Programs}
 use Rattle.dc_duties.specs.Lent.{lent}
 use Rattle.dc_duties.proofs.Sides.{few_duty_atoms}
 use Rattle.dc_table.specs.Tables.{equations_in, monos_at}
-use Rattle.dc_table.proofs.Lists.{flat_map-++, flat_map_one}
 use Rattle.dc_match.specs.declared.fault.MatchFault.TheVariants.{TooLarge}
 use Rattle.dc_match.specs.Answers.{size_fault}
 
@@ -129,17 +130,6 @@ module _ (p : Pair) (d k : ℕ) (f : Flags) where
       ap₂ (λ a b. if a then Some (TooLarge count.Columns (length (columns_of p d k f))) else (if b then Some (TooLarge count.Equations (length (equations_of p d k f))) else None)) (le-ltb 8192 (length (columns_of p d k f)) h) (le-ltb 2048 (length (equations_of p d k f)) g)
 
 -- ---- duty by duty
-pub take_at : {A : Type 0} (xs : List A) (i : ℕ) (d : A) → i < length xs → take (i + 1) xs ≡ take i xs ++ slice_index_or xs i d ∷ []
-take_at [] i d l = absurd (omega arith)
-take_at (y ∷ xs) zero d l = refl
-take_at (y ∷ xs) (suc i) d l = ap (λ k. take k (y ∷ xs)) (let q : suc i + 1 ≡ suc (i + 1) = omega arith in q) ∙ ap (λ z. y ∷ z) (take_at xs i d (omega arith))
-
-pub take_all : {A : Type 0} (xs : List A) (i : ℕ) → length xs ≤ i → take i xs ≡ xs
-take_all [] zero l = refl
-take_all [] (suc i) l = refl
-take_all (x ∷ xs) zero l = absurd (omega arith)
-take_all (x ∷ xs) (suc i) l = ap (λ q. x ∷ q) (take_all xs i (omega arith))
-
 split_at : {A : Type 0} (xs : List A) (i : ℕ) → (ys : List A) × (xs ≡ take i xs ++ ys)
 split_at [] zero = ([], refl)
 split_at [] (suc i) = ([], refl)
@@ -150,7 +140,7 @@ sum_more : (g : Duty → ℕ) (os : List Duty) (o : Duty) → sum_by g (os ++ o 
 sum_more g os o = sum_by_push g os o
 
 pub sum_there : (g : Duty → ℕ) (os : List Duty) (i : ℕ) (d : Duty) → i < length os → sum_by g (take (i + 1) os) ≡ sum_by g (take i os) + g (slice_index_or os i d)
-sum_there g os i d l = ap (sum_by g) (take_at os i d l) ∙ sum_more g (take i os) (slice_index_or os i d)
+sum_there g os i d l = ap (sum_by g) (take_more os i d l) ∙ sum_more g (take i os) (slice_index_or os i d)
 
 -- a duty has few products
 pub product_count_small : (p : Programs) → IsPair (lent p) → (k : ℕ) (o : Duty) (n : ℕ) → IsThere (lent p) o → k ≤ 3 → n ≡ products_count (lent p) k o → n ≤ 8627738651
@@ -164,13 +154,13 @@ module _ (p : Pair) (d k : ℕ) where
 
   pub equations_there : (os : List Duty) (i : ℕ) (e : Duty) → i < length os
       → length (equations_in p d k (take (i + 1) os)) ≡ length (equations_in p d k (take i os)) + length (monos_at p d k (slice_index_or os i e))
-  equations_there os i e l = ap (λ q. length (equations_in p d k q)) (take_at os i e l) ∙ one_more (take i os) (slice_index_or os i e)
+  equations_there os i e l = ap (λ q. length (equations_in p d k q)) (take_more os i e l) ∙ one_more (take i os) (slice_index_or os i e)
 
   -- those of some of the duties are no more than those of all
   pub equations_within : (os : List Duty) (i : ℕ) → length (equations_in p d k (take i os)) ≤ length (equations_in p d k os)
   equations_within os i =
       let r = split_at os i in
       let a = ap (λ q. length (equations_in p d k q)) r.1 in
-      let b = ap length (flat_map-++ (equations_at p d k) (take i os) r.0) in
+      let b = ap length (flat_map-append (equations_at p d k) (take i os) r.0) in
       let e = length-append (equations_in p d k (take i os)) (equations_in p d k r.0) in
       omega arith

@@ -2,6 +2,7 @@
 use Rattle.std.specs.Prelude.{◌≡◌, ◌⊎◌, ℕ, ◌+◌, ◌*◌, ◌<◌, ◌≤◌, List, [], ◌∷◌, ◌++◌, flat_map, length, map, take, slice_index_or}
 use Rattle.std.specs.List.{AllByRecursion}
 use Rattle.std.proofs.Common.{sym, ◌∙◌, ap, subst, arith, inl, inr}
+use Rattle.std.proofs.lemmas.List.{take_all, length-map, take_more}
 use Rattle.dc_math.specs.Members.{Among, each_left, each_right}
 use Rattle.dc_math.specs.OrderedLists.{Ordered}
 use Rattle.dc_poly.specs.declared.monomial.Term.{Term}
@@ -16,13 +17,13 @@ use Rattle.dc_claims.specs.Parts.{unknowns_of, part_of, rest_of}
 use Rattle.dc_claims.specs.Problems.{both_signs, polynomials_at, products_at}
 use Rattle.dc_table.specs.declared.table.Table.{Table}
 use Rattle.dc_table.specs.Tables.{AreListed, IsSound, IsTable, IsWeighed, IsExtended, equations_in, column_in, monos_at}
-use Rattle.dc_table.proofs.Columns.{length_map, table_more}
+use Rattle.dc_table.proofs.Columns.{table_more}
 use Rattle.dc_table.proofs.Extending.{length_lists}
 use Rattle.dc_syntax.specs.declared.tree.Count.TheVariants as count
 use Rattle.dc_match.specs.declared.fault.MatchFault.{MatchFault}
 use Rattle.dc_match.specs.declared.fault.MatchFault.TheVariants.{NoMemory, TooLarge}
 use Rattle.dc_match.specs.Answers.{IsFilled, IsFillFault}
-use Rattle.dc_match.proofs.Counting.{all_of_recursion, both_count, equations_there, equations_within, take_all, take_at}
+use Rattle.dc_match.proofs.Counting.{all_of_recursion, both_count, equations_there, equations_within}
 
 -- ---- what a block has is in its monomials
 of_terms : (P : TermList → Type 0) (qs : List Polynomial) → AllByRecursion P (all_terms qs) → AllByRecursion (λ (q : Polynomial). P q.terms) qs
@@ -50,7 +51,7 @@ module _ (p : Pair) (d k : ℕ) where
   -- ---- two columns for each unknown
   columns_counted : (os : List Duty) (t : Table) → IsTable p d k os t → length t.unknowns.items ≡ 2 * length (unknowns_of p d)
   columns_counted os t h =
-      sym (length_lists t.unknowns.items) ∙ ap length h.unknowns ∙ length_map (column_in p d k os) (flat_map both_signs (unknowns_of p d)) ∙ both_count p d
+      sym (length_lists t.unknowns.items) ∙ ap length h.unknowns ∙ length-map (flat_map both_signs (unknowns_of p d)) (column_in p d k os) ∙ both_count p d
 
   pub two_columns : (os : List Duty) (t : Table) → IsTable p d k os t → 2 ≤ length t.unknowns.items
   two_columns os t h = let a = columns_counted os t h in omega arith
@@ -58,12 +59,12 @@ module _ (p : Pair) (d k : ℕ) where
   pub two_each : (os : List Duty) (t : Table) (o : Duty) (b : Block) → IsTable p d k os t → IsBlock p d k o b → length t.unknowns.items ≡ 2 * length b.parts.items
   two_each os t o b h g =
       columns_counted os t h
-      ∙ ap (λ n. 2 * n) (sym (length_map (part_of p d o) (unknowns_of p d)) ∙ sym (ap length g.parts) ∙ length_map (λ (q : Polynomial). q.terms) b.parts.items)
+      ∙ ap (λ n. 2 * n) (sym (length-map (unknowns_of p d) (part_of p d o)) ∙ sym (ap length g.parts) ∙ length-map b.parts.items (λ (q : Polynomial). q.terms))
 
   -- ---- one block more
   module _ (os : List Duty) (i : ℕ) (o : Duty) (there : i < length os) (e : Duty) (is : o ≡ slice_index_or os i e) where
     next : take (i + 1) os ≡ take i os ++ o ∷ []
-    next = take_at os i e there ∙ ap (λ q. take i os ++ q ∷ []) (sym is)
+    next = take_more os i e there ∙ ap (λ q. take i os ++ q ∷ []) (sym is)
 
     pub rows_more : (t : Table) (b : Block) (more rows : ℕ) → IsTable p d k (take i os) t → IsBlock p d k o b → more ≡ length b.monos.items → rows ≡ t.rows + more
         → rows ≡ length (equations_in p d k (take (i + 1) os))
@@ -80,7 +81,7 @@ module _ (p : Pair) (d k : ℕ) where
 
   pub all_filled : (os : List Duty) (t : Table) (i : ℕ) → i ≤ length os → length os ≤ i → IsTable p d k (take i os) t → IsWeighed i t → length (equations_in p d k (take i os)) ≤ 2048 → IsFilled p d k os t
   all_filled os t i a b h w l = record {
-    table = subst (λ q. IsTable p d k q t) (take_all os i b) h;
+    table = subst (λ q. IsTable p d k q t) (take_all i os b) h;
     weighed = subst (λ n. IsWeighed n t) (let e : i ≡ length os = omega arith in e) w;
-    within = subst (λ q. length (equations_in p d k q) ≤ 2048) (take_all os i b) l;
+    within = subst (λ q. length (equations_in p d k q) ≤ 2048) (take_all i os b) l;
   }

@@ -1,5 +1,5 @@
 -- Functions on any points, and which functions are sums of them with factors that are not negative.
-use Rattle.std.specs.Prelude.{◌≡◌, suc, pos, length, List, [], ◌∷◌, ◌++◌}
+use Rattle.std.specs.Prelude.{◌≡◌, pos, List, [], ◌∷◌, ◌++◌}
 use Rattle.std.specs.List.{AllByRecursion}
 use Rattle.std.proofs.Common.{refl, sym, ap, ap₂, ◌∙◌}
 use Rattle.dc_math.specs.Members.{each-weaker}
@@ -102,37 +102,3 @@ cone_through hs r fs g h c =
 
 pub cone_cone : {X : Type 0} (hs fs : List (X → ℚ)) (g : X → ℚ) → AllByRecursion (Cone hs) fs → Cone fs g → Cone hs g
 cone_cone hs fs g h c = cone_through hs (λ x. x) fs g h c
-
--- the same with exactly one factor for each function
-pub record Shown {X : Type 0} (fs : List (X → ℚ)) (f : X → ℚ) : Type 0 where
-  pub by : List ℚ
-  pub one_each : length by ≡ length fs
-  pub not_negative : AllByRecursion NonNegative by
-  pub is : (x : X) → dot (values_at fs x) by ≡ f x
-
-module _ {X : Type 0} where
-  fit : List ℚ → List (X → ℚ) → List ℚ
-  fit ls [] = []
-  fit [] (f ∷ fs) = of_ℤ (pos 0) ∷ fit [] fs
-  fit (l ∷ ls) (f ∷ fs) = l ∷ fit ls fs
-
-  fit_length : (ls : List ℚ) (fs : List (X → ℚ)) → length (fit ls fs) ≡ length fs
-  unfolding fit
-  fit_length ls [] = refl
-  fit_length [] (f ∷ fs) = ap suc (fit_length [] fs)
-  fit_length (l ∷ ls) (f ∷ fs) = ap suc (fit_length ls fs)
-
-  fit_each : (ls : List ℚ) (fs : List (X → ℚ)) → AllByRecursion NonNegative ls → AllByRecursion NonNegative (fit ls fs)
-  unfolding fit
-  fit_each ls [] h = tt
-  fit_each [] (f ∷ fs) h = (zero_non_negative, fit_each [] fs tt)
-  fit_each (l ∷ ls) (f ∷ fs) h = (h.0, fit_each ls fs h.1)
-
-  fit_dot : (ls : List ℚ) (fs : List (X → ℚ)) (x : X) → dot (values_at fs x) (fit ls fs) ≡ dot (values_at fs x) ls
-  unfolding fit
-  fit_dot ls [] x = refl
-  fit_dot [] (f ∷ fs) x = ap (λ y. f x *ℚ of_ℤ (pos 0) +ℚ y) (fit_dot [] fs x ∙ dot-nil (values_at fs x)) ∙ ring (f x ∷ []) (λ ρ p. simp (p, read_nat ρ, reads) (same_form _ _ _ refl))
-  fit_dot (l ∷ ls) (f ∷ fs) x = ap (λ y. f x *ℚ l +ℚ y) (fit_dot ls fs x)
-
-  pub shown : (fs : List (X → ℚ)) (f : X → ℚ) → Cone fs f → Shown fs f
-  shown fs f c = record { by = fit c.by fs; one_each = fit_length c.by fs; not_negative = fit_each c.by fs c.not_negative; is = λ x. fit_dot c.by fs x ∙ c.is x }

@@ -109,7 +109,7 @@ fraction_of_parts n d = record { num = n; den = d.0; den_positive = d.1 }
 at_least_prop : (d : ℤ) → IsProp (pos 1 ≤ℤ d)
 at_least_prop d = hlevel T_prop
 
-pub fraction_path : (p q : Fraction) → p.num ≡ q.num → p.den ≡ q.den → p ≡ q
+fraction_path : (p q : Fraction) → p.num ≡ q.num → p.den ≡ q.den → p ≡ q
 unfolding fraction_of_parts
 fraction_path p q e f = ap₂ fraction_of_parts e (Σ_prop_path (λ d. at_least_prop d) f)
 

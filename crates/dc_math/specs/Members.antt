@@ -59,7 +59,7 @@ module _ {A B : Type 0} (P : B → Type 0) where
 pub each-map_weaker : {A B : Type 0} (P : A → Type 0) (Q : B → Type 0) (f : A → B) → ((x : A) → P x → Q (f x)) → (xs : List A) → AllByRecursion P xs → AllByRecursion Q (map f xs)
 each-map_weaker P Q f s xs h = each-map Q f xs (each-weaker P (λ x. Q (f x)) s xs h)
 
--- ---- by place
+-- ---- by index
 pub each-range : (P : ℕ → Type 0) (a n : ℕ) → ((i : ℕ) → a ≤ i → i < a + n → P i) → AllByRecursion P (range_with_len a n)
 each-range P a zero h = tt
 each-range P a (suc n) h = (h a (omega arith) (omega arith), each-range P (a + 1) n (λ i k l. h i (omega arith) (omega arith)))
@@ -186,7 +186,7 @@ among_filter_back p x (y ∷ xs) i = by (p y) refl i (among_filter_back p x xs)
     by true e j r = elim (among_cons j) [ inl q ↦ (among_first q, ap p q ∙ e) | inr k ↦ let w = r k in (tail w.0, w.1) ]
     by false e j r = let w = r j in (tail w.0, w.1)
 
--- ---- among numbers in a row, and by place
+-- ---- among numbers in a row, and by index
 pub among_range : (k a n : ℕ) → a ≤ k → k < a + n → Among k (range_with_len a n)
 among_range k a zero h l = absurd (omega arith)
 among_range k a (suc n) h l = elim (cases_lt a k) [
@@ -209,7 +209,7 @@ at_among d [] i l = absurd (omega arith)
 at_among d (x ∷ xs) zero l = head
 at_among d (x ∷ xs) (suc i) l = tail (at_among d xs i (omega arith))
 
--- std's word, by place
+-- std's word, by index
 pub among_contained : {A : Type 0} (x : A) (xs : List A) → Contains xs x → Among x xs
 among_contained {A} x xs c = All-contains (λ y. Among y xs) xs x (All-from_recursion (λ y. Among y xs) xs (among_each (λ y. Among y xs) xs (λ y i. i))) c
 

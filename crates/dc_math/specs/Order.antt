@@ -4,7 +4,7 @@ use Rattle.std.proofs.Common.{refl, sym, ap, ◌∙◌, arith, subst, subst₂, 
 use Rattle.std.proofs.lemmas.Int.{ints}
 use Rattle.dc_math.specs.Integers.{≤ℤ_or, *ℤ_assoc}
 use Rattle.dc_math.specs.Rational.{ℚ, Fraction, fraction_of, ratio, ratio_same, ratio_at_most, at_most_ratio, ratio-mul, ratio-neg, of_ℤ_is, ◌+ℚ◌, ◌*ℚ◌, ◌-ℚ◌, neg_ℚ, of_ℤ, ◌≤ℚ◌, ◌<ℚ◌, <ℚ-≤ℚ, <ℚ-not, ≤ℚ_refl, ≤ℚ_antisymm, ≤ℚ_or, ≤ℚ-sub, NonNegative, NonNegative-*ℚ}
-use Rattle.dc_math.specs.RationalRing.{ring, reads, read_nat, same_form, linear₁, linear₂, ≤ℚ_by, ≤ℚ_trans, *ℚ-≤ℚ}
+use Rattle.dc_math.specs.RationalRing.{ring, reads, read_nat, same_form, linear₁, linear₂, ≤ℚ_trans, *ℚ-≤ℚ}
 use Rattle.dc_math.specs.Inverse.{inverse, inverse_unique, *ℚ-inverse}
 use Rattle.dc_math.specs.Signs.{of_ℤ-≤, of_ℤ-≤_back, inverse_non_negative}
 use Rattle.dc_math.specs.Linear.{from₁, follows, times}
@@ -16,14 +16,8 @@ not-<ℚ x y n = ⊎_elim (λ h. absurd (n h)) (λ h. h) (≤ℚ_or y x)
 pub <ℚ_irrefl : (x : ℚ) → ¬ (x <ℚ x)
 <ℚ_irrefl x h = <ℚ-not x x h (≤ℚ_refl x)
 
-pub <ℚ_trans : (x y z : ℚ) → x <ℚ y → y <ℚ z → x <ℚ z
-<ℚ_trans x y z h k = not-<ℚ x z (λ l. <ℚ-not x y h (≤ℚ_trans y z x (<ℚ-≤ℚ y z k) l))
-
 pub ≤ℚ-<ℚ_trans : (x y z : ℚ) → x ≤ℚ y → y <ℚ z → x <ℚ z
 ≤ℚ-<ℚ_trans x y z h k = not-<ℚ x z (λ l. <ℚ-not y z k (≤ℚ_trans z x y l h))
-
-pub <ℚ-≤ℚ_trans : (x y z : ℚ) → x <ℚ y → y ≤ℚ z → x <ℚ z
-<ℚ-≤ℚ_trans x y z h k = not-<ℚ x z (λ l. <ℚ-not x y h (≤ℚ_trans y z x k l))
 
 pub <ℚ_nonequal : (x y : ℚ) → x <ℚ y → x ≢ y
 <ℚ_nonequal x y h e = <ℚ-not x y h (subst (λ z. z ≤ℚ x) e (≤ℚ_refl x))
@@ -70,9 +64,6 @@ pub *ℚ_zero : (x y : ℚ) → x *ℚ y ≡ of_ℤ (pos 0) → x ≢ of_ℤ (po
 *ℚ_zero x y e n = linear₂ (inverse x) _ _ _ _ (neg_ℚ y) _ _ e (*ℚ-inverse x n)
     (ring (x ∷ y ∷ inverse x ∷ []) (λ ρ p q r. simp r (simp (p, q, read_nat ρ, reads) (same_form _ _ _ refl))))
 
-pub Positive-+ℚ : (x y : ℚ) → Positive x → NonNegative y → Positive (x +ℚ y)
-Positive-+ℚ x y h k = <ℚ-≤ℚ_trans (of_ℤ (pos 0)) x (x +ℚ y) h (≤ℚ_by x (x +ℚ y) y k refl)
-
 pub Positive-*ℚ : (x y : ℚ) → Positive x → Positive y → Positive (x *ℚ y)
 Positive-*ℚ x y h k = NonNegative_positive (x *ℚ y) (NonNegative-*ℚ x y (<ℚ-≤ℚ _ _ h) (<ℚ-≤ℚ _ _ k))
     (λ e. Positive_nonzero y k (*ℚ_zero x y e (Positive_nonzero x h)))
@@ -108,10 +99,6 @@ pub ≤ℚ-*ℚ_cancel : (x y z : ℚ) → (x *ℚ z) ≤ℚ (y *ℚ z) → Posi
   where
     out : (x z i : ℚ) → z *ℚ i ≡ of_ℤ (pos 1) → (x *ℚ z) *ℚ i ≡ x
     out x z i e = linear₁ x _ _ _ _ e (ring (x ∷ z ∷ i ∷ []) (λ ρ p q r. simp (p, q, r, read_nat ρ, reads) (same_form _ _ _ refl)))
-
-pub *ℚ_cancel : (x y z : ℚ) → x *ℚ z ≡ y *ℚ z → z ≢ of_ℤ (pos 0) → x ≡ y
-*ℚ_cancel x y z e n = linear₂ (inverse z) _ _ _ _ (neg_ℚ (x -ℚ y)) _ _ e (*ℚ-inverse z n)
-    (ring (x ∷ y ∷ z ∷ inverse z ∷ []) (λ ρ p q r s. simp s (simp (p, q, r, read_nat ρ, reads) (same_form _ _ _ refl))))
 
 -- ---- a fraction is a quotient of whole numbers
 pub ratio-*ℚ-den : (p : Fraction) → ratio p *ℚ of_ℤ p.den ≡ of_ℤ p.num

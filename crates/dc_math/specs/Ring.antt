@@ -220,7 +220,7 @@ module _ {R : Type 0} (𝓡 : Ring R) where
   same_normal ρ e f h = sym (normal-value ρ e) ∙ ap (of_terms ρ) h ∙ normal-value ρ f
 
 -- ---- the same, with the expressions found by `simp`
--- each x of a list is named by an equation: it is what `f` says of its place
+-- each x of a list is named by an equation: it is what `f` says of its index
 abbrev pub Named : {R : Type 0} → (ℕ → R) → ℕ → List R → Type 0 → Type 0
 Named f i [] P = P
 Named f i (x ∷ xs) P = x ≡ f i → Named f (suc i) xs P

@@ -1,4 +1,4 @@
--- Finite sums of rational numbers by index, and the numbers of a list by place.
+-- Finite sums of rational numbers by index, and the numbers of a list by index.
 use Rattle.std.specs.Prelude.{◌≡◌, ℕ, zero, suc, ◌<◌, pos, List, [], ◌∷◌}
 use Rattle.std.proofs.Common.{refl, ◌∙◌, ap, arith}
 use Rattle.dc_math.specs.Rational.{ℚ, ◌+ℚ◌, ◌*ℚ◌, neg_ℚ, of_ℤ, ◌≤ℚ◌, ≤ℚ_refl, +ℚ_comm, +ℚ_assoc}
@@ -53,8 +53,8 @@ unfolding sum_to
 sum_ℚ-≤ℚ zero f g h = ≤ℚ_refl (of_ℤ (pos 0))
 sum_ℚ-≤ℚ (suc n) f g h = +ℚ-≤ℚ _ _ _ _ (sum_ℚ-≤ℚ n f g (λ i l. h i (omega arith))) (h n (omega arith))
 
--- ---- a list by place
--- the number at a place, and 0 past the end
+-- ---- a list by index
+-- the number at an index, and 0 past the end
 abbrev pub at : List ℚ → ℕ → ℚ
 at [] i = of_ℤ (pos 0)
 at (x ∷ xs) zero = x

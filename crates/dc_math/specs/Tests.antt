@@ -55,13 +55,6 @@ le_ℚ_false x y e = record { lt = subst (λ b. T (not b)) (sym e) tt }
 pub lt_ℚ-false : (x y : ℚ) → y ≤ℚ x → lt_ℚ x y ≡ false
 lt_ℚ-false x y h = ap not (le_ℚ-true y x h)
 
-pub lt_ℚ_false : (x y : ℚ) → lt_ℚ x y ≡ false → y ≤ℚ x
-lt_ℚ_false x y e = record { le = by (le_ℚ y x) e }
-  where
-    by : (b : Bool) → not b ≡ false → T b
-    by true e = tt
-    by false e = absurd (cc)
-
 pub eq_ℚ-true : (x y : ℚ) → x ≡ y → eq_ℚ x y ≡ true
 eq_ℚ-true x y e = rw (e, le_ℚ-true y y (≤ℚ_refl y)) refl
 

@@ -1,7 +1,6 @@
 -- A polynomial of degree at most 1 is its constant and one coefficient for each place.
-use Rattle.std.specs.Prelude.{◌≡◌, ℕ, zero, suc, ◌≤◌, true, cond, List, [], ◌∷◌, map, length, ℤ, pos, ◌+ℤ◌, ◌*ℤ◌, refl, All}
+use Rattle.std.specs.Prelude.{◌≡◌, ℕ, zero, suc, ◌≤◌, true, cond, List, [], ◌∷◌, map, length, ℤ, pos, ◌+ℤ◌, ◌*ℤ◌, refl}
 use Rattle.std.specs.List.{AllByRecursion}
-use Rattle.std.proofs.lemmas.List.Elements.{recursion_from_All}
 use Rattle.std.proofs.Common.{sym, ◌∙◌, ap, ap₂, arith}
 use Rattle.std.proofs.lemmas.Int.{ints}
 use Rattle.dc_math.specs.WholeRing.{ring, reads, read_nat, same_form}
@@ -115,12 +114,9 @@ scaled_sum n p r q xs =
     shape a b q x y = ring (a ∷ b ∷ q ∷ x ∷ y ∷ []) (λ ρ h i j l m. simp (h, i, j, l, m, reads) (same_form _ _ _ refl))
 
 -- ---- lists of forms
-each_one : (n : ℕ) (vs : List Polynomial) (xs : List ℤ) → AllByRecursion (λ (v : Polynomial). Affine n v.terms) vs → scaled_values n vs (pos 1) xs ≡ values vs xs
-each_one n [] xs h = refl
-each_one n (v ∷ vs) xs h = ap₂ ◌∷◌ (scaled_one n v.terms xs h.0) (each_one n vs xs h.1)
-
-pub list_one : (n : ℕ) (vs : List Polynomial) (xs : List ℤ) → All (λ (v : Polynomial). Affine n v.terms) vs → scaled_values n vs (pos 1) xs ≡ values vs xs
-list_one n vs xs h = each_one n vs xs (recursion_from_All (λ (v : Polynomial). Affine n v.terms) vs h)
+pub list_one : (n : ℕ) (vs : List Polynomial) (xs : List ℤ) → AllByRecursion (λ (v : Polynomial). Affine n v.terms) vs → scaled_values n vs (pos 1) xs ≡ values vs xs
+list_one n [] xs h = refl
+list_one n (v ∷ vs) xs h = ap₂ ◌∷◌ (scaled_one n v.terms xs h.0) (list_one n vs xs h.1)
 
 pub list_multiple : (n : ℕ) (vs : List Polynomial) (k q : ℤ) (xs : List ℤ) → scaled_values n vs (k *ℤ q) (scale_ℤ k xs) ≡ scale_ℤ k (scaled_values n vs q xs)
 list_multiple n [] k q xs = refl

@@ -1,9 +1,8 @@
 -- The value of a polynomial by the values of the monomials of an ordered list.
-use Rattle.std.specs.Prelude.{◌≡◌, Bool, true, false, cond, List, [], ◌∷◌, map, All, AllPairs, Contains, ℤ, pos, ◌+ℤ◌, ◌*ℤ◌, refl}
+use Rattle.std.specs.Prelude.{◌≡◌, Bool, true, false, cond, List, [], ◌∷◌, map, AllPairs, ℤ, pos, ◌+ℤ◌, ◌*ℤ◌, refl}
 use Rattle.std.specs.List.{AllByRecursion}
 use Rattle.std.proofs.Common.{sym, ◌∙◌, ap, ap₂, subst}
-use Rattle.std.proofs.lemmas.List.Elements.{recursion_from_All}
-use Rattle.dc_math.specs.Members.{Among, head, tail, each_among, none_among, among_contained}
+use Rattle.dc_math.specs.Members.{Among, head, tail, each_among, none_among}
 use Rattle.dc_math.specs.WholeRing.{ring, reads, read_nat, same_form}
 use Rattle.dc_math.specs.WholeVectors.{dot_ℤ}
 use Rattle.dc_math.specs.OrderedLists.{Ordered, ordered_pairs}
@@ -62,12 +61,12 @@ only-one k c (m ∷ ms) xs o (tail i) =
     shape : (x a w y : ℤ) → a ≡ pos 0 → w ≡ y → a *ℤ x +ℤ w ≡ y
     shape x a w y d e = rw (d, e) (ring (x ∷ y ∷ []) (λ ρ i j. simp (i, j, read_nat ρ, reads) (same_form _ _ _ refl)))
 
-by_list : (p : TermList) (ms : List Exponents) (xs : List ℤ) → Ordered Before ms → AllByRecursion (λ (t : Term). Contains ms t.mono) p → value p xs ≡ total (coef p) ms xs
+by_list : (p : TermList) (ms : List Exponents) (xs : List ℤ) → Ordered Before ms → AllByRecursion (λ (t : Term). Among t.mono ms) p → value p xs ≡ total (coef p) ms xs
 by_list [] ms xs o h = sym (total-zero ms xs)
 by_list (t ∷ p) ms xs o h =
-    ap₂ ◌+ℤ◌ (sym (only-one t.mono t.coef ms xs o (among_contained t.mono ms h.0))) (by_list p ms xs o h.1)
+    ap₂ ◌+ℤ◌ (sym (only-one t.mono t.coef ms xs o h.0)) (by_list p ms xs o h.1)
     ∙ sym (total-add (only t.mono t.coef) (coef p) ms xs)
 
-pub by_monomials : (p : TermList) (ms : List Exponents) (xs : List ℤ) → AllPairs Before ms → All (λ (t : Term). Contains ms t.mono) p
+pub by_monomials : (p : TermList) (ms : List Exponents) (xs : List ℤ) → AllPairs Before ms → AllByRecursion (λ (t : Term). Among t.mono ms) p
     → value p xs ≡ dot_ℤ (map (coef p) ms) (map (λ m. mono_value m xs) ms)
-by_monomials p ms xs o h = by_list p ms xs (ordered_pairs Before ms o) (recursion_from_All (λ (t : Term). Contains ms t.mono) p h)
+by_monomials p ms xs o h = by_list p ms xs (ordered_pairs Before ms o) h

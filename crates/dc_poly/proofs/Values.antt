@@ -1,5 +1,5 @@
 -- The values and the coefficients of sums and products, and that they are canonical.
-use Rattle.std.specs.Prelude.{◌≡◌, ℕ, zero, suc, ◌+◌, ◌<◌, Bool, true, false, cond, List, [], ◌∷◌, slice_index_or, ℤ, pos, negsuc, ◌+ℤ◌, ◌*ℤ◌, refl}
+use Rattle.std.specs.Prelude.{◌≡◌, ℕ, zero, suc, ◌+◌, ◌<◌, ◌≤◌, Bool, true, false, cond, List, [], ◌∷◌, ◌++◌, length, slice_index_or, ℤ, pos, negsuc, ◌+ℤ◌, ◌*ℤ◌, refl}
 use Rattle.std.proofs.Common.{sym, ◌∙◌, ap, ap₂, subst, arith}
 use Rattle.std.specs.declared.cmp.Ordering.{Ordering}
 use Rattle.std.specs.declared.cmp.Ordering.TheVariants.{Less, Equal, Greater}
@@ -60,6 +60,12 @@ mono_value-times (e ∷ m) (f ∷ k) xs = ap₂ ◌*ℤ◌ (power-+ (front xs) e
   where
     four : (a b c d : ℤ) → (a *ℤ b) *ℤ (c *ℤ d) ≡ (a *ℤ c) *ℤ (b *ℤ d)
     four a b c d = ring (a ∷ b ∷ c ∷ d ∷ []) (λ ρ i j k l. simp (i, j, k, l, reads) (same_form _ _ _ refl))
+
+-- numbers behind the last exponent are not seen
+pub mono_value-longer : (m : Exponents) (x y : List ℤ) → length m ≤ length x → mono_value m (x ++ y) ≡ mono_value m x
+mono_value-longer [] x y l = refl
+mono_value-longer (e ∷ m) [] y l = absurd (omega arith)
+mono_value-longer (e ∷ m) (a ∷ x) y l = ap (λ v. power a e *ℤ v) (mono_value-longer m x y (omega arith))
 
 pub value-shifted : (m : Exponents) (c : ℤ) (p : TermList) (xs : List ℤ) → value (shifted m c p) xs ≡ (c *ℤ mono_value m xs) *ℤ value p xs
 value-shifted m c [] xs = none (c *ℤ mono_value m xs)

@@ -1,5 +1,7 @@
 -- The laws of polynomials, each as the contract of a function of `laws` states it.
-use Rattle.std.specs.Prelude.{◌≡◌, ℕ, ◌≤◌, List, map, length, All, AllPairs, Contains, ℤ, pos, ◌+ℤ◌, ◌*ℤ◌}
+use Rattle.std.specs.Prelude.{◌≡◌, ℕ, ◌≤◌, List, map, length, AllPairs, ℤ, pos, ◌+ℤ◌, ◌*ℤ◌}
+use Rattle.std.specs.List.{AllByRecursion}
+use Rattle.dc_math.specs.Members.{Among}
 use Rattle.dc_math.specs.WholeVectors.{dot_ℤ, scale_ℤ}
 use Rattle.dc_math.specs.Rational.{of_ℤ}
 use Rattle.dc_poly.specs.declared.monomial.Term.{Term}
@@ -46,7 +48,7 @@ CoefOfSum = (p q : TermList) (m : Exponents) → coef (plus p q) m ≡ coef p m 
 -- monomials of the polynomial
 abbrev pub ValueByMonomials : Type 0
 ValueByMonomials = (p : TermList) (ms : List Exponents) (xs : List ℤ)
-    → AllPairs Before ms → All (λ (t : Term). Contains ms t.mono) p
+    → AllPairs Before ms → AllByRecursion (λ (t : Term). Among t.mono ms) p
     → value p xs ≡ dot_ℤ (map (coef p) ms) (map (λ m. mono_value m xs) ms)
 
 -- a polynomial of degree at most 2 has at most 78 terms
@@ -63,7 +65,7 @@ pub record AtRationalPoints : Type 0 where
   pub of_sum : (n : ℕ) (p r : TermList) (q : ℤ) (xs : List ℤ)
       → scaled_value n (plus p r) q xs ≡ scaled_value n p q xs +ℤ scaled_value n r q xs
   pub whole_list : (n : ℕ) (vs : List Polynomial) (xs : List ℤ)
-      → All (λ (v : Polynomial). Affine n v.terms) vs → scaled_values n vs (pos 1) xs ≡ values vs xs
+      → AllByRecursion (λ (v : Polynomial). Affine n v.terms) vs → scaled_values n vs (pos 1) xs ≡ values vs xs
   pub list_any_denominator : (n : ℕ) (vs : List Polynomial) (k q : ℤ) (xs : List ℤ)
       → scaled_values n vs (k *ℤ q) (scale_ℤ k xs) ≡ scale_ℤ k (scaled_values n vs q xs)
 

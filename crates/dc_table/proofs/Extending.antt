@@ -8,8 +8,9 @@ use Rattle.dc_poly.specs.Terms.{Exponents, Polynomial, TermList}
 use Rattle.dc_poly.specs.Sums.{negated}
 use Rattle.dc_poly.specs.declared.monomial.Term.{Term}
 use Rattle.std.specs.List.{AllByRecursion}
+use Rattle.std.proofs.lemmas.List.{append_assoc, replicate_more}
+use Rattle.dc_coefficients.proofs.Lists.{take_there, flat_map_one}
 use Rattle.dc_table.specs.Tables.{lists, extended, both_entries, entries_of, opposite_entries}
-use Rattle.dc_table.proofs.Lists.{regroup, flat_map_one}
 
 pub extended_none : (cs : List (List Entry)) → extended cs [] ≡ cs
 extended_none [] = refl
@@ -54,57 +55,20 @@ pub length_both : (r : ℕ) (ms : List Exponents) (qs : List Polynomial) → len
 length_both r ms [] = refl
 length_both r ms (q ∷ qs) = let a = length_both r ms qs in omega arith
 
-pub take_there : {A : Type 0} (xs : List A) (i : ℕ) (x : A) → i < length xs → x ≡ slice_index_or xs i x → take (i + 1) xs ≡ take i xs ++ x ∷ []
-take_there [] i x l e = absurd (omega arith)
-take_there (y ∷ xs) zero x l e = ap (λ z. z ∷ []) (sym e)
-take_there (y ∷ xs) (suc i) x l e = ap (λ k. take k (y ∷ xs)) (let q : suc i + 1 ≡ suc (i + 1) = omega arith in q) ∙ ap (λ z. y ∷ z) (take_there xs i x (omega arith) e)
-
-pub length_take : {A : Type 0} (xs : List A) (i : ℕ) → i ≤ length xs → length (take i xs) ≡ i
-length_take [] zero l = refl
-length_take [] (suc i) l = absurd (omega arith)
-length_take (x ∷ xs) zero l = refl
-length_take (x ∷ xs) (suc i) l = ap suc (length_take xs i (omega arith))
-
-pub take_all : {A : Type 0} (xs : List A) (i : ℕ) → length xs ≤ i → take i xs ≡ xs
-take_all [] zero l = refl
-take_all [] (suc i) l = refl
-take_all (x ∷ xs) zero l = absurd (omega arith)
-take_all (x ∷ xs) (suc i) l = ap (λ q. x ∷ q) (take_all xs i (omega arith))
-
 -- both columns of a part
 pub both_extended : (cs : List (List Entry)) (r : ℕ) (ms : List Exponents) (qs : List Polynomial) (k : ℕ) (q : Polynomial) → k < length qs → q ≡ slice_index_or qs k q
     → extended cs (flat_map (both_entries r ms) (take k qs) ++ entries_of r ms q ∷ [] ++ opposite_entries r ms q ∷ []) ≡ extended cs (flat_map (both_entries r ms) (take (k + 1) qs))
 both_extended cs r ms qs k q l e =
-    ap (extended cs) (regroup (flat_map (both_entries r ms) (take k qs)) (entries_of r ms q ∷ []) (opposite_entries r ms q ∷ []) ∙ sym (ap (flat_map (both_entries r ms)) (take_there qs k q l e) ∙ flat_map_one (both_entries r ms) (take k qs) q))
+    ap (extended cs) (append_assoc (flat_map (both_entries r ms) (take k qs)) (entries_of r ms q ∷ []) (opposite_entries r ms q ∷ []) ∙ sym (ap (flat_map (both_entries r ms)) (take_there qs k q l e) ∙ flat_map_one (both_entries r ms) (take k qs) q))
 
 -- the opposite of a polynomial has the same monomials
 pub listed_negated : (ms : List Exponents) (p : TermList) → AllByRecursion (λ (t : Term). Among t.mono ms) p → AllByRecursion (λ (t : Term). Among t.mono ms) (negated p)
 listed_negated ms [] h = tt
 listed_negated ms (t ∷ p) h = (h.0, listed_negated ms p h.1)
 
-pub map_more : {A B : Type 0} (f : A → B) (xs : List A) (i : ℕ) (x : A) → i < length xs → x ≡ slice_index_or xs i x → map f (take (i + 1) xs) ≡ map f (take i xs) ++ f x ∷ []
-map_more f xs i x l e = ap (map f) (take_there xs i x l e) ∙ joined f (take i xs) x
-  where
-    joined : {A B : Type 0} (f : A → B) (xs : List A) (x : A) → map f (xs ++ x ∷ []) ≡ map f xs ++ f x ∷ []
-    joined f [] x = refl
-    joined f (y ∷ xs) x = ap (λ q. f y ∷ q) (joined f xs x)
-
 pub lists_++ : (xs ys : List (Vec Entry Global)) → lists (xs ++ ys) ≡ lists xs ++ lists ys
 lists_++ [] ys = refl
 lists_++ (x ∷ xs) ys = ap (λ q. x.items ∷ q) (lists_++ xs ys)
 
-pub length_set : {A : Type 0} (xs : List A) (i : ℕ) (x : A) → length (slice_set xs i x) ≡ length xs
-length_set [] i x = refl
-length_set (y ∷ xs) zero x = refl
-length_set (y ∷ xs) (suc i) x = ap suc (length_set xs i x)
-
--- one behind what stands already
-pub behind : {A : Type 0} (list before made more last : List A) → list ≡ before ++ made → more ≡ made ++ last → list ++ last ≡ before ++ more
-behind list before made more last e h = ap (λ q. q ++ last) e ∙ regroup before made last ∙ ap (λ q. before ++ q) (sym h)
-
-pub replicate_more : {A : Type 0} (n : ℕ) (x : A) → replicate (n + 1) x ≡ replicate n x ++ x ∷ []
-replicate_more zero x = refl
-replicate_more (suc n) x = ap (λ k. replicate k x) (let e : suc n + 1 ≡ suc (n + 1) = omega arith in e) ∙ ap (λ q. x ∷ q) (replicate_more n x)
-
 pub replicate_next : {A : Type 0} (i a : ℕ) (x : A) → a ≤ i → replicate (i + 1 - a) x ≡ replicate (i - a) x ++ x ∷ []
-replicate_next i a x l = ap (λ k. replicate k x) (let e : i + 1 - a ≡ (i - a) + 1 = omega arith in e) ∙ replicate_more (i - a) x
+replicate_next i a x l = ap (λ k. replicate k x) (let e : i + 1 - a ≡ (i - a) + 1 = omega arith in e) ∙ sym (replicate_more (i - a) x)

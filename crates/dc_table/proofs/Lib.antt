@@ -1,4 +1,3 @@
-pub mod Lists
 pub mod Columns
 pub mod Weights
 pub mod Whole

@@ -26,7 +26,6 @@ use Rattle.dc_claims.specs.Problems.{polynomials_at}
 use Rattle.dc_claims.specs.Blocks.{IsBlock, IsPart}
 use Rattle.dc_table.specs.declared.table.Table.{Table}
 use Rattle.dc_table.specs.Tables.{lists, entries_of, opposite_entries, both_entries, extended, IsExtended, IsEmptyTable, part_weight, product_weight, IsWeighed}
-use Rattle.dc_table.proofs.Lists.{map-++}
 
 size_sum : (x y : ℤ) → unsigned_abs (x +ℤ y) ≤ unsigned_abs x + unsigned_abs y
 size_sum x y = omega (arith, ints)

@@ -4,7 +4,7 @@ use Rattle.std.specs.declared.alloc.Global.{Global}
 use Rattle.std.specs.List.{AllByRecursion, range_with_len}
 use Rattle.std.proofs.Common.{refl, sym, ◌∙◌, ap, ap₂, subst, arith}
 use Rattle.std.proofs.lemmas.Int.{ints}
-use Rattle.std.proofs.lemmas.List.{length-replicate}
+use Rattle.std.proofs.lemmas.List.{length-replicate, map-append, length-map}
 use Rattle.dc_math.specs.Members.{each_all, each-++, each-map, each-flat_map, each_at_or}
 use Rattle.dc_math.specs.Rational.{of_ℤ}
 use Rattle.dc_lp.specs.declared.Entry.{Entry}
@@ -26,8 +26,7 @@ use Rattle.dc_claims.specs.Problems.{Column, Plus, Minus, Times, both_signs, cos
 use Rattle.dc_claims.proofs.Owed.{occurs_at_most}
 use Rattle.dc_table.specs.declared.table.Table.{Table}
 use Rattle.dc_table.specs.Tables.{lists, IsProblemOf, equations_in, column_in, IsTable, IsWeighed, part_weight, product_weight}
-use Rattle.dc_table.proofs.Lists.{map-++}
-use Rattle.dc_table.proofs.Columns.{multiplier_columns, length_map}
+use Rattle.dc_table.proofs.Columns.{multiplier_columns}
 
 -- ---- lists by index
 value_or : {A B : Type 0} → (A → B) → B → Option A → B
@@ -83,10 +82,10 @@ module _ (p : Pair) (d k : ℕ) (f : Flags) where
         g.columns
         ∙ ap₂ ◌++◌ h.unknowns
         (h.products ∙ multiplier_columns p d k [] (duties_of f) (λ o. occurs_at_most f o))
-        ∙ sym (map-++ (column_in p d k (duties_of f)) (flat_map both_signs (unknowns_of p d)) (flat_map (multipliers_at p k) (duties_of f)))
+        ∙ sym (map-append (column_in p d k (duties_of f)) (flat_map both_signs (unknowns_of p d)) (flat_map (multipliers_at p k) (duties_of f)))
 
     count : length r.columns.items ≡ length columns
-    count = sym (length_map (λ (c : Vec Entry Global). c.items) r.columns.items) ∙ ap length columns_are ∙ length_map (column_in p d k (duties_of f)) columns
+    count = sym (length-map r.columns.items (λ (c : Vec Entry Global). c.items)) ∙ ap length columns_are ∙ length-map columns (column_in p d k (duties_of f))
 
     costs : r.cost.items ≡ map cost_in columns
     costs = g.cost ∙ costs_are (length r.columns.items) count
@@ -160,7 +159,7 @@ module _ (p : Pair) (d k : ℕ) (f : Flags) where
       all_rise : (cs : List Column) → AllByRecursion (λ es. AreEntries 0 r.rows es) (map (column_in p d k (duties_of f)) cs)
       all_rise [] = tt
       all_rise (c ∷ cs) =
-          (rising 0 r.rows (map (λ q. entry_of p d k q c) equations) (let a = length_map (λ q. entry_of p d k q c) equations in let b = g.rows in let e = h.rows in omega arith), all_rise cs)
+          (rising 0 r.rows (map (λ q. entry_of p d k q c) equations) (let a = length-map equations (λ q. entry_of p d k q c) in let b = g.rows in let e = h.rows in omega arith), all_rise cs)
 
       small_costs : (cs : List Column) → AllByRecursion (λ z. unsigned_abs z < 2 ^ 127) (map cost_in cs)
       small_costs [] = tt
@@ -175,8 +174,8 @@ module _ (p : Pair) (d k : ℕ) (f : Flags) where
 
       pub well_formed : IsWellFormed r
       well_formed = record {
-        right_sides = ap length (g.b ∙ h.b) ∙ length_map (right_of p d k) equations ∙ sym (g.rows ∙ h.rows);
-        costs = ap length costs ∙ length_map cost_in columns ∙ sym count;
+        right_sides = ap length (g.b ∙ h.b) ∙ length-map equations (right_of p d k) ∙ sym (g.rows ∙ h.rows);
+        costs = ap length costs ∙ length-map columns cost_in ∙ sym count;
         columns = λ j l. record {
           entries = each_at_or (λ es. AreEntries 0 r.rows es) (lists r.columns.items) j [] (subst (AllByRecursion (λ es. AreEntries 0 r.rows es)) (sym columns_are) (all_rise columns)) tt;
           weight = each_at_or (λ es. weight es < 2 ^ 127) (lists r.columns.items) j [] all_light (omega arith);

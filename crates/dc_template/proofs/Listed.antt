@@ -1,8 +1,7 @@
 -- The list of monomials is the one of its law, and there is one such list.
 use Rattle.std.specs.Prelude.{ℕ, suc, List}
 use Rattle.std.proofs.Common.{arith}
-use Rattle.std.proofs.lemmas.List.Elements.{All-from_recursion, recursion_from_All}
-use Rattle.dc_math.specs.Members.{Among, each-weaker, each_among, among_contained, contained_among}
+use Rattle.dc_math.specs.Members.{Among, each-weaker, each_among}
 use Rattle.dc_math.specs.OrderedLists.{same_members, pairs_ordered, ordered_pairs}
 use Rattle.dc_poly.specs.Terms.{Exponents, Before}
 use Rattle.dc_poly.specs.Monomials.{IsWithin, monomials_of}
@@ -12,8 +11,8 @@ use Rattle.dc_template.specs.Monomials.{AreMonomials, AreFixed}
 
 pub are_monomials : (n d : ℕ) → AreMonomials n d (monomials_of n d)
 are_monomials n d = record {
-  only = All-from_recursion (IsWithin n d) (monomials_of n d) (each-weaker (IsBelow n (suc d)) (IsWithin n d) (λ m h. record { places = h.places; low = (let l = h.low in omega arith) }) (monomials_of n d) (below-only n (suc d)));
-  each = (λ m h. contained_among m (monomials_of n d) (list_every n d m h));
+  only = each-weaker (IsBelow n (suc d)) (IsWithin n d) (λ m h. record { places = h.places; low = (let l = h.low in omega arith) }) (monomials_of n d) (below-only n (suc d));
+  each = list_every n d;
   in_order = pairs_ordered Before (monomials_of n d) (list_ordered n d);
 }
 
@@ -21,4 +20,4 @@ pub are_fixed : AreFixed
 are_fixed n d ms ks h k = same_members Before strict ms ks (ordered_pairs Before ms h.in_order) (ordered_pairs Before ks k.in_order) (within ms ks h k) (within ks ms k h)
   where
     within : (ms ks : List Exponents) → AreMonomials n d ms → AreMonomials n d ks → (m : Exponents) → Among m ms → Among m ks
-    within ms ks h k m i = among_contained m ks (k.each m (each_among (IsWithin n d) (recursion_from_All (IsWithin n d) ms h.only) i))
+    within ms ks h k m i = k.each m (each_among (IsWithin n d) h.only i)

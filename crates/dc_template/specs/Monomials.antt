@@ -1,5 +1,7 @@
 -- The monomials of a template: what their list is.
-use Rattle.std.specs.Prelude.{◌≡◌, ℕ, ◌-◌, List, ◌++◌, map, length, All, AllPairs, Contains}
+use Rattle.std.specs.Prelude.{◌≡◌, ℕ, ◌-◌, List, ◌++◌, map, length, AllPairs}
+use Rattle.std.specs.List.{AllByRecursion}
+use Rattle.dc_math.specs.Members.{Among}
 use Rattle.dc_poly.specs.Terms.{Exponents, Before}
 use Rattle.dc_poly.specs.Sums.{times_mono, zeros}
 use Rattle.dc_poly.specs.Monomials.{IsWithin, of_degree, monomials_of}
@@ -7,8 +9,8 @@ use Rattle.dc_poly.specs.Monomials.{IsWithin, of_degree, monomials_of}
 -- the monomials of n places and of degree at most d: these alone, each of them, and in graded order.
 -- That order is strict, so each stands there once.
 pub record AreMonomials (n d : ℕ) (ms : List Exponents) : Type 0 where
-  pub only : All (IsWithin n d) ms
-  pub each : (m : Exponents) → IsWithin n d m → Contains ms m
+  pub only : AllByRecursion (IsWithin n d) ms
+  pub each : (m : Exponents) → IsWithin n d m → Among m ms
   pub in_order : AllPairs Before ms
 
 -- there is one such list

@@ -2,7 +2,7 @@ use Rattle.std.proofs.Common.{[], ◌∷◌, sym, ◌∙◌, ap, subst}
 use Rattle.dc_math.specs.OrderedLists.{Ordered}
 use Rattle.dc_poly.specs.Terms.{Before}
 use Rattle.dc_coefficients.specs.Monomials.{with_monos, with_all, all_terms}
-use Rattle.dc_coefficients.proofs.Placing.{ordered-with_all, ordered-with_monos, with_all-++}
+use Rattle.dc_coefficients.proofs.Insertions.{ordered-with_all, ordered-with_monos, with_all-++}
 use Rattle.dc_coefficients.proofs.monos.monos_of.Goals as goal
 
 pub add_terms-requires : goal.add_terms-requires

@@ -1,13 +1,14 @@
 use Rattle.std.proofs.Common.{ℕ, ◌+◌, ◌-◌, ◌/◌, ◌<◌, [], length, get_or, sym, ◌∙◌, subst, arith}
 use Rattle.std.specs.declared.cmp.Ordering.TheVariants.{Less, Equal, Greater}
 use Rattle.dc_poly.specs.Terms.{Before}
-use Rattle.dc_coefficients.proofs.Placing.{with_mono-there, with_mono-at, all_below, all_above, told, any_default}
+use Rattle.std.proofs.lemmas.List.{get_or_default}
+use Rattle.dc_coefficients.proofs.Insertions.{with_mono-there, with_mono-at, all_below, all_above, told}
 use Rattle.dc_coefficients.proofs.monos.spot_of.Goals as goal
 
 pub loop-low-preserved-in-Less : goal.loop-low-preserved-in-Less
 loop-low-preserved-in-Less c =
     let l : c.loop-low.low + (c.loop-low.high - c.loop-low.low) / 2 < length c.args.list.now = (let a = c.loop-low.invariant.within in let b = c.loop-low-test.true in omega arith) in
-    let e = c.index-list-middle.is ∙ any_default c.args.list.now _ c.index-list-middle.result [] l in
+    let e = c.index-list-middle.is ∙ get_or_default c.args.list.now _ c.index-list-middle.result [] l in
     record {
       order = (let b = c.loop-low-test.true in omega arith);
       within = c.loop-low.invariant.within;
@@ -18,13 +19,13 @@ loop-low-preserved-in-Less c =
 pub returns-in-Equal : goal.returns-in-Equal
 returns-in-Equal c =
     let l : c.loop-low.low + (c.loop-low.high - c.loop-low.low) / 2 < length c.args.list.now = (let a = c.loop-low.invariant.within in let b = c.loop-low-test.true in omega arith) in
-    let e = c.index-list-middle.is ∙ any_default c.args.list.now _ c.index-list-middle.result [] l in
+    let e = c.index-list-middle.is ∙ get_or_default c.args.list.now _ c.index-list-middle.result [] l in
     with_mono-there c.args.list.now c.args.mono.now _ c.requires l (sym e ∙ told c.index-list-middle.result c.args.mono.now Equal c.in-Equal.ensures)
 
 pub loop-low-preserved : goal.loop-low-preserved
 loop-low-preserved c =
     let l : c.loop-low.low + (c.loop-low.high - c.loop-low.low) / 2 < length c.args.list.now = (let a = c.loop-low.invariant.within in let b = c.loop-low-test.true in omega arith) in
-    let e = c.index-list-middle.is ∙ any_default c.args.list.now _ c.index-list-middle.result [] l in
+    let e = c.index-list-middle.is ∙ get_or_default c.args.list.now _ c.index-list-middle.result [] l in
     record {
       order = omega arith;
       within = omega arith;

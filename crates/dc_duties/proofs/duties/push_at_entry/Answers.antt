@@ -1,8 +1,10 @@
 use Rattle.std.proofs.Common.{◌≡◌, ◌++◌, ◌∷◌, [], ◌+◌, ◌∙◌, ap, sym, true, false, take, Vec, Global, slice_index_or}
+use Rattle.std.proofs.lemmas.List.{append-nil}
+use Rattle.dc_coefficients.proofs.Lists.{behind}
 use Rattle.dc_claims.specs.declared.duty.Duty.{Duty}
 use Rattle.dc_claims.specs.declared.duty.Duty.TheVariants.{AtEntry}
 use Rattle.dc_claims.specs.Duties.{duties_at_entry}
-use Rattle.dc_duties.proofs.Lists.{behind, nothing_more, duty_set, duty_unset}
+use Rattle.dc_duties.proofs.Lists.{duty_set, duty_unset}
 use Rattle.dc_duties.proofs.duties.push_at_entry.Goals as goal
 use Rattle.dc_duties.proofs.duties.push_at_entry.Goals.{then-flag+in_ok-push, else-flag}
 

@@ -1,6 +1,7 @@
 use Rattle.std.proofs.Common.{◌++◌, ◌∷◌, [], ◌∙◌, ap, pos, arith}
+use Rattle.dc_coefficients.proofs.Lists.{behind}
 use Rattle.dc_poly.specs.Sums.{constant}
-use Rattle.dc_duties.proofs.Lists.{behind, zeros_more}
+use Rattle.dc_duties.proofs.Lists.{zeros_more}
 use Rattle.dc_duties.proofs.states.inputs.Goals as goal
 
 pub loop-local-preserved : goal.loop-local-preserved

@@ -1,6 +1,7 @@
 use Rattle.std.proofs.Common.{◌∷◌, [], ◌∙◌}
+use Rattle.dc_coefficients.proofs.Lists.{behind}
 use Rattle.dc_claims.specs.declared.duty.Unknown.TheVariants.{Coefficient}
-use Rattle.dc_duties.proofs.Lists.{behind, map_range_more}
+use Rattle.dc_duties.proofs.Lists.{map_range_more}
 use Rattle.dc_duties.proofs.unknowns.push_at.Goals as goal
 
 pub loop-number-preserved : goal.loop-number-preserved

@@ -1,7 +1,8 @@
 use Rattle.std.proofs.Common.{map, ◌∙◌}
 use Rattle.std.specs.List.{range_with_len}
+use Rattle.dc_coefficients.proofs.Lists.{behind}
 use Rattle.dc_claims.specs.declared.duty.Unknown.TheVariants.{Coefficient}
-use Rattle.dc_duties.proofs.Lists.{behind, flat_range_more}
+use Rattle.dc_duties.proofs.Lists.{flat_range_more}
 use Rattle.dc_duties.proofs.unknowns.push_coefficients.Goals as goal
 
 pub loop-location-preserved : goal.loop-location-preserved

@@ -1,11 +1,12 @@
 use Rattle.std.proofs.Common.{◌∙◌, ap, arith, ◌+◌, ◌*◌, length, length-append, slice_index_or}
 use Rattle.std.specs.Prelude.{sum_by}
+use Rattle.std.proofs.lemmas.List.{take_all}
 use Rattle.dc_syntax.specs.declared.tree.Side.TheVariants.{New, Old}
 use Rattle.dc_claims.specs.Claims.{products_count}
 use Rattle.dc_claims.specs.declared.duty.Duty.TheVariants.{Along}
 use Rattle.dc_claims.specs.Parts.{unknowns_on, unknowns_of}
 use Rattle.dc_duties.specs.Lent.{lent}
-use Rattle.dc_match.proofs.Counting.{sum_there, take_all, product_count_small}
+use Rattle.dc_match.proofs.Counting.{sum_there, product_count_small}
 use Rattle.dc_match.proofs.counts.column_count.Goals as goal
 
 pub loop-duty-init : goal.loop-duty-init
@@ -43,4 +44,4 @@ loop-duty-preserved c =
     record { sum = omega arith; small = omega arith }
 
 pub returns : goal.returns
-returns c = c.loop-duty.invariant.sum ∙ ap (λ os. 2 * length (unknowns_of (lent c.args.programs.now) c.args.degree) + sum_by (products_count (lent c.args.programs.now) c.args.products) os) (take_all c.args.duties.now c.loop-duty.duty-index c.loop-duty-test.false)
+returns c = c.loop-duty.invariant.sum ∙ ap (λ os. 2 * length (unknowns_of (lent c.args.programs.now) c.args.degree) + sum_by (products_count (lent c.args.programs.now) c.args.products) os) (take_all c.loop-duty.duty-index c.args.duties.now c.loop-duty-test.false)

@@ -1,9 +1,10 @@
 use Rattle.std.proofs.Common.{◌∙◌, ap, arith, length}
+use Rattle.std.proofs.lemmas.List.{take_all}
 use Rattle.dc_syntax.specs.declared.tree.Side.TheVariants.{New}
 use Rattle.dc_claims.specs.declared.duty.Duty.TheVariants.{Along}
 use Rattle.dc_duties.specs.Lent.{lent}
 use Rattle.dc_table.specs.Tables.{equations_in}
-use Rattle.dc_match.proofs.Counting.{equations_there, take_all}
+use Rattle.dc_match.proofs.Counting.{equations_there}
 use Rattle.dc_match.proofs.counts.equation_count.Goals as goal
 
 pub block_of-requires-clause-there : goal.block_of-requires-clause-there
@@ -21,4 +22,4 @@ loop-duty-preserved c =
     omega arith
 
 pub returns : goal.returns
-returns c = c.loop-duty.invariant ∙ ap (λ os. length (equations_in (lent c.args.task.now.programs.now) c.args.task.now.degree c.args.task.now.products os)) (take_all c.args.duties.now c.loop-duty.duty-index c.loop-duty-test.false)
+returns c = c.loop-duty.invariant ∙ ap (λ os. length (equations_in (lent c.args.task.now.programs.now) c.args.task.now.degree c.args.task.now.products os)) (take_all c.loop-duty.duty-index c.args.duties.now c.loop-duty-test.false)

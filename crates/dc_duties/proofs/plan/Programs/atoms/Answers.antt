@@ -1,5 +1,5 @@
 use Rattle.std.proofs.Common.{◌∙◌, ap, sym, subst, length, [], ◌<◌, ◌≤◌}
-use Rattle.dc_coefficients.proofs.Placing.{any_default}
+use Rattle.std.proofs.lemmas.List.{get_or_default}
 use Rattle.dc_duties.proofs.Sides.{one_each, atoms_are, few_atoms}
 use Rattle.dc_duties.proofs.plan.Programs.atoms.Goals as goal
 
@@ -9,7 +9,7 @@ bounds-plan-location c = subst (λ n. c.args.location < n) (sym (one_each c.args
 pub returns-clause-atoms : goal.returns-clause-atoms
 returns-clause-atoms c =
     c.as_slice.ensures
-    ∙ any_default c.plan-plan.result.now.families.now c.args.location c.index-plan-location.result []
+    ∙ get_or_default c.plan-plan.result.now.families.now c.args.location c.index-plan-location.result []
     (subst (λ n. c.args.location < n) (sym (one_each c.args.self.now c.requires.pair c.args.side c.plan-plan.result.now c.plan-plan.ensures)) c.requires.there)
     ∙ atoms_are c.args.self.now c.args.side c.plan-plan.result.now c.args.location c.plan-plan.ensures
 
@@ -17,7 +17,7 @@ pub returns-clause-few : goal.returns-clause-few
 returns-clause-few c =
     subst (λ gs. length gs ≤ 1024)
     (sym (c.as_slice.ensures
-    ∙ any_default c.plan-plan.result.now.families.now c.args.location c.index-plan-location.result []
+    ∙ get_or_default c.plan-plan.result.now.families.now c.args.location c.index-plan-location.result []
     (subst (λ n. c.args.location < n) (sym (one_each c.args.self.now c.requires.pair c.args.side c.plan-plan.result.now c.plan-plan.ensures)) c.requires.there)
     ∙ atoms_are c.args.self.now c.args.side c.plan-plan.result.now c.args.location c.plan-plan.ensures))
     (few_atoms c.args.self.now c.requires.pair c.args.side c.args.location)

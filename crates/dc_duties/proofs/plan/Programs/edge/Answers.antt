@@ -2,7 +2,7 @@ use Rattle.std.proofs.Common.{◌∙◌, ap, sym, subst, length, arith, ◌<◌}
 use Rattle.dc_system.specs.declared.edges.Edge.{Edge}
 use Rattle.dc_system.specs.declared.edges.System.{System}
 use Rattle.dc_system.specs.Shapes.{IsEdge, IsWithin}
-use Rattle.dc_coefficients.proofs.Placing.{any_default}
+use Rattle.std.proofs.lemmas.List.{get_or_default}
 use Rattle.dc_claims.specs.Duties.{system_of, edge_at, no_edge}
 use Rattle.dc_duties.specs.Lent.{lent}
 use Rattle.dc_duties.proofs.Sides.{indexed, edge_kind, edge_ends}

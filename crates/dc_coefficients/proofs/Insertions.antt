@@ -38,33 +38,33 @@ graded_same m k e = by (graded m k) (graded_told m k)
     by Equal t = refl
     by Greater t = absurd (Before-not m (subst (λ x. Before x m) (sym e) t))
 
-abbrev placed : Exponents → Exponents → List Exponents → Ordering → List Exponents
-placed m k ks o = elim o [ Less ↦ m ∷ k ∷ ks | Equal ↦ k ∷ ks | Greater ↦ k ∷ with_mono m ks ]
+abbrev inserted : Exponents → Exponents → List Exponents → Ordering → List Exponents
+inserted m k ks o = elim o [ Less ↦ m ∷ k ∷ ks | Equal ↦ k ∷ ks | Greater ↦ k ∷ with_mono m ks ]
 
-placed_is : (m k : Exponents) (ks : List Exponents) (o : Ordering) → graded m k ≡ o → with_mono m (k ∷ ks) ≡ placed m k ks o
-placed_is m k ks o e = ap (placed m k ks) e
+inserted_is : (m k : Exponents) (ks : List Exponents) (o : Ordering) → graded m k ≡ o → with_mono m (k ∷ ks) ≡ inserted m k ks o
+inserted_is m k ks o e = ap (inserted m k ks) e
 
 -- ---- where a monomial goes
 pub with_mono-there : (ms : List Exponents) (m : Exponents) (i : ℕ) → Ordered Before ms → i < length ms → slice_index_or ms i [] ≡ m → with_mono m ms ≡ ms
 with_mono-there [] m i o l e = absurd (omega arith)
-with_mono-there (k ∷ ks) m zero o l e = placed_is m k ks Equal (graded_same m k (sym e))
+with_mono-there (k ∷ ks) m zero o l e = inserted_is m k ks Equal (graded_same m k (sym e))
 with_mono-there (k ∷ ks) m (suc i) o l e =
     let b : Before k m = subst (λ x. Before k x) e (index_each (Before k) ks i o.0 (omega arith)) in
-    placed_is m k ks Greater (graded_greater m k b) ∙ ap (λ z. k ∷ z) (with_mono-there ks m i o.1 (omega arith) e)
+    inserted_is m k ks Greater (graded_greater m k b) ∙ ap (λ z. k ∷ z) (with_mono-there ks m i o.1 (omega arith) e)
   where
     index_each : (P : Exponents → Type 0) (ks : List Exponents) (i : ℕ) → AllByRecursion P ks → i < length ks → P (slice_index_or ks i [])
     index_each P [] i h l = absurd (omega arith)
     index_each P (k ∷ ks) zero h l = h.0
     index_each P (k ∷ ks) (suc i) h l = index_each P ks i h.1 (omega arith)
 
--- all before a place are before it, and it is before the one at the place
+-- all before an index are before it, and it is before the one at the index
 pub with_mono-at : (ms : List Exponents) (m : Exponents) (i : ℕ) → i ≤ length ms
     → ((k : ℕ) → k < i → Before (slice_index_or ms k []) m) → (i < length ms → Before m (slice_index_or ms i [])) → with_mono m ms ≡ insert ms i m
 with_mono-at [] m zero l b a = refl
 with_mono-at [] m (suc i) l b a = absurd (omega arith)
-with_mono-at (k ∷ ks) m zero l b a = placed_is m k ks Less (graded_less m k (a (omega arith)))
+with_mono-at (k ∷ ks) m zero l b a = inserted_is m k ks Less (graded_less m k (a (omega arith)))
 with_mono-at (k ∷ ks) m (suc i) l b a =
-    placed_is m k ks Greater (graded_greater m k (b 0 (omega arith)))
+    inserted_is m k ks Greater (graded_greater m k (b 0 (omega arith)))
     ∙ ap (λ z. k ∷ z) (with_mono-at ks m i (omega arith) (λ j h. b (suc j) (omega arith)) (λ h. a (omega arith)))
 
 -- ---- the order stays
@@ -72,7 +72,7 @@ pub each-with_mono : (P : Exponents → Type 0) (ms : List Exponents) (m : Expon
 each-with_mono P [] m p h = (p, tt)
 each-with_mono P (k ∷ ks) m p h = by (each-with_mono P ks m p h.1) (graded m k)
   where
-    by : AllByRecursion P (with_mono m ks) → (o : Ordering) → AllByRecursion P (placed m k ks o)
+    by : AllByRecursion P (with_mono m ks) → (o : Ordering) → AllByRecursion P (inserted m k ks o)
     by r Less = (p, h)
     by r Equal = h
     by r Greater = (h.0, r)
@@ -85,7 +85,7 @@ pub ordered-with_mono : (ms : List Exponents) (m : Exponents) → Ordered Before
 ordered-with_mono [] m o = (tt, tt)
 ordered-with_mono (k ∷ ks) m o = by (ordered-with_mono ks m o.1) (graded m k) (graded_told m k)
   where
-    by : Ordered Before (with_mono m ks) → (q : Ordering) → Told m k q → Ordered Before (placed m k ks q)
+    by : Ordered Before (with_mono m ks) → (q : Ordering) → Told m k q → Ordered Before (inserted m k ks q)
     by r Less t = ((t, later m k ks t o.0), o)
     by r Equal t = o
     by r Greater t = (each-with_mono (Before k) ks m t o.0, r)
@@ -102,7 +102,7 @@ ordered-with_all (p ∷ ps) ms o = ordered-with_monos p (with_all ps ms) (ordere
 pub in-with_mono_old : (m k : Exponents) (ms : List Exponents) → Among k ms → Among k (with_mono m ms)
 in-with_mono_old m k (l ∷ ks) h = by (in-with_mono_old m k ks) (graded m l) h
   where
-    by : (Among k ks → Among k (with_mono m ks)) → (o : Ordering) → Among k (l ∷ ks) → Among k (placed m l ks o)
+    by : (Among k ks → Among k (with_mono m ks)) → (o : Ordering) → Among k (l ∷ ks) → Among k (inserted m l ks o)
     by r Less h = tail h
     by r Equal h = h
     by r Greater h = elim (among_cons h) [ inl e ↦ among_first e | inr i ↦ tail (r i) ]
@@ -112,7 +112,7 @@ pub in-with_mono_new : (m : Exponents) (ms : List Exponents) → Among m (with_m
 in-with_mono_new m [] = head
 in-with_mono_new m (l ∷ ks) = by (in-with_mono_new m ks) (graded m l) (graded_told m l)
   where
-    by : Among m (with_mono m ks) → (o : Ordering) → Told m l o → Among m (placed m l ks o)
+    by : Among m (with_mono m ks) → (o : Ordering) → Told m l o → Among m (inserted m l ks o)
     by r Less t = head
     by r Equal t = among_first t
     by r Greater t = tail r
@@ -121,7 +121,7 @@ pub in_with_mono : (m k : Exponents) (ms : List Exponents) → Among k (with_mon
 in_with_mono m k [] h = among_cons h
 in_with_mono m k (l ∷ ks) h = by (in_with_mono m k ks) (graded m l) h
   where
-    by : (Among k (with_mono m ks) → (k ≡ m) ⊎ Among k ks) → (o : Ordering) → Among k (placed m l ks o) → (k ≡ m) ⊎ Among k (l ∷ ks)
+    by : (Among k (with_mono m ks) → (k ≡ m) ⊎ Among k ks) → (o : Ordering) → Among k (inserted m l ks o) → (k ≡ m) ⊎ Among k (l ∷ ks)
     by r Less h = among_cons h
     by r Equal h = inr h
     by r Greater h = elim (among_cons h) [
@@ -170,7 +170,3 @@ with_all-++ [] qs ms = refl
 with_all-++ (p ∷ ps) qs ms = ap (with_monos p) (with_all-++ ps qs ms)
 
 -- within a list the value for what is missing does not matter
-pub any_default : {A : Type 0} (xs : List A) (i : ℕ) (d e : A) → i < length xs → slice_index_or xs i d ≡ slice_index_or xs i e
-any_default [] i d e l = absurd (omega arith)
-any_default (x ∷ xs) zero d e l = refl
-any_default (x ∷ xs) (suc i) d e l = any_default xs i d e (omega arith)
