@@ -2,7 +2,7 @@
 use Rattle.std.specs.Prelude.{◌≡◌, ℕ, ◌+◌, ◌*◌, ◌<◌, ◌≤◌, Bool, List, [], ◌∷◌, ◌++◌, map, flat_map, take, length}
 use Rattle.std.specs.List.{range_with_len}
 use Rattle.std.proofs.Common.{refl, sym, ◌∙◌, ap, ap₂, arith, get_or, take_all, length-append}
-use Rattle.std.proofs.lemmas.List.{take_more, length-map}
+use Rattle.std.proofs.lemmas.List.{take_more, length-map, map-append}
 use Rattle.std.proofs.lemmas.List.FromFn.{length-range_with_len}
 use Rattle.dc_syntax.specs.declared.tree.Side.{Side}
 use Rattle.dc_syntax.specs.declared.tree.Side.TheVariants.{New, Old}
@@ -12,13 +12,9 @@ use Rattle.dc_claims.specs.Duties.{Pair, system_of}
 use Rattle.dc_claims.specs.Parts.{unknowns_of, unknowns_on, unknowns_at}
 
 module _ {A : Type 0} (f : A → Bool) (xs : List A) where
-  map-++ : (ys zs : List A) → map f (ys ++ zs) ≡ map f ys ++ map f zs
-  map-++ [] zs = refl
-  map-++ (y ∷ ys) zs = ap (λ bs. f y ∷ bs) (map-++ ys zs)
-
   pub flags_more : (i : ℕ) (x : A) (b : Bool) (o p : List Bool) → i < length xs → x ≡ get_or xs i x → b ≡ f x → o ≡ map f (take i xs) → p ≡ o ++ b ∷ [] → p ≡ map f (take (i + 1) xs)
   flags_more i x b o p l e q h g =
-      g ∙ ap₂ (λ bs c. bs ++ c ∷ []) h q ∙ sym (ap (map f) (take_more xs i x l ∙ ap (λ y. take i xs ++ y ∷ []) (sym e)) ∙ map-++ (take i xs) (x ∷ []))
+      g ∙ ap₂ (λ bs c. bs ++ c ∷ []) h q ∙ sym (ap (map f) (take_more xs i x l ∙ ap (λ y. take i xs ++ y ∷ []) (sym e)) ∙ map-append f (take i xs) (x ∷ []))
 
   pub flags_done : (i : ℕ) (o : List Bool) → length xs ≤ i → o ≡ map f (take i xs) → o ≡ map f xs
   flags_done i o l h = h ∙ ap (map f) (take_all i xs l)

@@ -2,7 +2,7 @@
 use Rattle.std.specs.Prelude.{◌≡◌, ℕ, zero, suc, ◌+◌, ◌<◌, ◌≤◌, Bool, List, [], ◌∷◌, ◌++◌, map, take, drop, length, slice_index_or}
 use Rattle.std.specs.List.{AllByRecursion}
 use Rattle.std.proofs.Common.{refl, sym, ◌∙◌, ap, subst, arith}
-use Rattle.std.proofs.lemmas.List.{take_all, length-take-le}
+use Rattle.std.proofs.lemmas.List.{take_all, length-take-le, map-append}
 use Rattle.dc_affine.specs.declared.atom.Atom.{Atom}
 use Rattle.dc_affine.specs.Atoms.{IsAtom, IsFullAtom, AllCases}
 use Rattle.dc_cert.specs.declared.certificate.Liveness.{Liveness}
@@ -46,10 +46,6 @@ numbered_join f k (x ∷ xs) ys =
     let e : suc k + length xs ≡ k + suc (length xs) = omega arith in
     ap (λ zs. f k x ∷ zs) (numbered_join f (suc k) xs ys ∙ ap (λ j. numbered f (suc k) xs ++ numbered f j ys) e)
 
-map_join : (xs ys : List Liveness) → map is_live (xs ++ ys) ≡ map is_live xs ++ map is_live ys
-map_join [] ys = refl
-map_join (x ∷ xs) ys = ap (λ bs. is_live x ∷ bs) (map_join xs ys)
-
 lines_push : (n budget : ℕ) (cases : List (List Atom)) (live : List Bool) (ws : List Liveness) (case : List Atom) (w : Liveness)
     → AreCaseLines n budget cases live ws → IsLine case n budget w → AreCaseLines n budget (cases ++ case ∷ []) (live ++ is_live w ∷ []) (ws ++ w ∷ [])
 lines_push n budget [] [] [] case w h k = (refl, k, tt)
@@ -85,7 +81,7 @@ module _ (n budget : ℕ) (cases : List (List Atom)) where
     pub lines_next : (ws new : List Liveness) (w : Liveness) → AreFirstLines k ws → IsLine case n budget w → IsFlag (is_live w) case → new ≡ ws ++ w ∷ [] → AreFirstLines (suc k) new
     lines_next ws new w h l f e =
         let s = next_at cases k case inside read in
-        let m : map is_live new ≡ map is_live ws ++ is_live w ∷ [] = ap (map is_live) e ∙ map_join ws (w ∷ []) in
+        let m : map is_live new ≡ map is_live ws ++ is_live w ∷ [] = ap (map is_live) e ∙ map-append is_live ws (w ∷ []) in
         record {
           lines = subst (λ cs. AreCaseLines n budget cs (map is_live new) new) (sym s)
               (subst (λ bs. AreCaseLines n budget (take k cases ++ case ∷ []) bs new) (sym m)

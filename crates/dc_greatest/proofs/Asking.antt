@@ -2,6 +2,7 @@
 use Rattle.std.specs.Prelude.{◌≡◌, ℕ, zero, suc, ◌+◌, ◌-◌, ◌<◌, Bool, true, false, cond, if◌then◌else◌, ◌&&◌, List, [], ◌∷◌, ◌++◌, map, filter, flat_map}
 use Rattle.std.specs.List.{range_with_len}
 use Rattle.std.proofs.Common.{refl, sym, ◌∙◌, ap, subst, inl, inr, arith, append_assoc, append-nil}
+use Rattle.std.proofs.lemmas.Grind.{flat_map-append}
 use Rattle.dc_entail.specs.Asked.{Asked, AllDone, Refuses}
 use Rattle.dc_entail.specs.declared.answer.Place.{Place}
 use Rattle.dc_simplex.specs.Limits.{Answer}
@@ -42,10 +43,6 @@ pub map_filter_once : {A B : Type 0} (p : A → Bool) (f : A → B) (xs : List A
 map_filter_once p f xs = map_filter p f xs
 
 -- ---- the first rows
-flat-++ : {A B : Type 0} (g : A → List B) (xs ys : List A) → flat_map g (xs ++ ys) ≡ flat_map g xs ++ flat_map g ys
-flat-++ g [] ys = refl
-flat-++ g (x ∷ xs) ys = ap (λ zs. g x ++ zs) (flat-++ g xs ys) ∙ sym (append_assoc (g x) (flat_map g xs) (flat_map g ys))
-
 range_join : (a n m : ℕ) → range_with_len a (n + m) ≡ range_with_len a n ++ range_with_len (a + n) m
 range_join a zero m = let e : a ≡ a + 0 = omega arith in let z : 0 + m ≡ m = omega arith in ap (range_with_len a) z ∙ ap (λ b. range_with_len b m) e
 range_join a (suc n) m =
@@ -62,7 +59,7 @@ module _ (g : ℕ → List Asked) where
       let z : n ≡ k + suc (n - k - 1) = omega arith in
       let e : 0 + k ≡ k = omega arith in
       ap first_asked z ∙ ap (flat_map g) (range_join 0 k (suc (n - k - 1)) ∙ ap (λ b. range_with_len 0 k ++ range_with_len b (suc (n - k - 1))) e)
-      ∙ flat-++ g (range_with_len 0 k) (range_with_len k (suc (n - k - 1)))
+      ∙ flat_map-append g (range_with_len 0 k) (range_with_len k (suc (n - k - 1)))
 
   first_next : (k : ℕ) → first_asked (suc k) ≡ first_asked k ++ g k
   first_next k =

@@ -6,6 +6,7 @@ use Rattle.std.proofs.Common.{refl, sym, ◌∙◌, ap, ap₂, subst, inl, inr, 
 use Rattle.std.proofs.lemmas.Bool.{cases_lt}
 use Rattle.std.proofs.lemmas.Int.{ints}
 use Rattle.std.proofs.lemmas.List.FromFn.{length-map-range_with_len, get_or-map-range_with_len}
+use Rattle.std.proofs.lemmas.List.{length-map}
 use Rattle.dc_math.specs.Members.{Among, head, among_cons, among-left, among-right, among-++, among_map, mapped_among, among_at, at_among}
 use Rattle.dc_affine.specs.declared.atom.Atom.{Atom}
 use Rattle.dc_rows.specs.declared.kinds.Candidates.{Candidates}
@@ -175,10 +176,6 @@ slice_map f [] i a b h = absurd (omega arith)
 slice_map f (x ∷ xs) zero a b h = refl
 slice_map f (x ∷ xs) (suc i) a b h = slice_map f xs i a b (omega arith)
 
-long_map : {A B : Type 0} (f : A → B) (xs : List A) → length (map f xs) ≡ length xs
-long_map f [] = refl
-long_map f (x ∷ xs) = ap suc (long_map f xs)
-
 module _ (s : Graph) (c : Candidates) (J : Family) (kind : AreCandidates s.vars c) (w : HasCandidates s c J) (u : IsUpward c J) where
   abbrev least_of : ℕ → Row → Option ℕ
   least_of l r = number_of (λ b. J l (bounded r b)) c.bounds
@@ -201,7 +198,7 @@ module _ (s : Graph) (c : Candidates) (J : Family) (kind : AreCandidates s.vars 
   shaped : IsShaped s.locs c form
   shaped = record {
     one_each = long_form;
-    rows = λ l d h. ap (λ (f : LocFamily). length f.least) (at_form l d h) ∙ long_map (least_of l) c.rows;
+    rows = λ l d h. ap (λ (f : LocFamily). length f.least) (at_form l d h) ∙ length-map c.rows (least_of l);
     bounds = λ l r d h i. subst (IsBelow (length c.bounds)) (sym (ap (λ (f : LocFamily). slice_index_or f.least r None) (at_form l d h) ∙ at_least l r i)) (number_below _ c.bounds);
   }
 

@@ -4,7 +4,7 @@ use Rattle.std.specs.Option.{option_map}
 use Rattle.std.specs.List.{AllByRecursion, range_with_len}
 use Rattle.std.proofs.Common.{refl, sym, ◌∙◌, ap, ap₂, subst, inl, inr, arith, append_assoc, append-nil, length-append}
 use Rattle.std.proofs.lemmas.Bool.{cases_Bool, cases_lt, cases_eq}
-use Rattle.std.proofs.lemmas.List.{take_all, length-take-le, length-drop, get_or_default, get_or-drop}
+use Rattle.std.proofs.lemmas.List.{take_all, length-take-le, length-drop, get_or_default, get_or-drop, map-append}
 use Rattle.dc_math.specs.Members.{Among, each_is, among_range_back}
 use Rattle.dc_affine.specs.declared.atom.Atom.{Atom}
 use Rattle.dc_affine.specs.Atoms.{IsFullAtom}
@@ -34,7 +34,7 @@ use Rattle.dc_invariant.specs.Prunes.{questions_asked, PrunesAsk}
 use Rattle.dc_invariant.specs.Answers.{TellsPrinted}
 use Rattle.dc_invariant.specs.Lent.{Only, family, question, one_asked, IsOneStep, IsPruning, IsListed, RowsAsk, ArePruned, HasLeast, kept_atom, rows_with, LocationAsks, TellsLocation}
 use Rattle.dc_invariant.proofs.Faults.{fault_to, fault_before, done_both}
-use Rattle.dc_invariant.proofs.Steps.{split_at, remove_at, number_at, map_joined, filter_same, all_filter, map_same_on, all_mapped, all_without, live_without}
+use Rattle.dc_invariant.proofs.Steps.{split_at, remove_at, number_at, filter_same, all_filter, map_same_on, all_mapped, all_without, live_without}
 
 module _ (t : Pruning) (l : ℕ) where
   abbrev c : Candidates
@@ -130,7 +130,7 @@ module _ (t : Pruning) (l : ℕ) where
 
     more_done : IsDone t.budget (one_asked (place.Prune t.side l r) k atoms) → AllDone t.budget (map (question t l) (h.asked ++ q ∷ []))
     more_done d =
-        subst (AllDone t.budget) (sym (map_joined (question t l) h.asked (q ∷ [])))
+        subst (AllDone t.budget) (sym (map-append (question t l) h.asked (q ∷ [])))
         (done_both t.budget (map (question t l) h.asked) (question t l q ∷ []) h.done (subst (IsDone t.budget) same_question d, tt))
 
     pub left_next : (new : List Atom) → IsOneStep (place.Prune t.side l r) k t.budget atoms new → IsLeft rows k new
@@ -165,7 +165,7 @@ module _ (t : Pruning) (l : ℕ) where
         told : (qs : List Question) → map (question t l) h.asked ++ (asked ++ map (question t l) qs) ≡ map (question t l) (h.asked ++ (q ∷ qs))
         told qs =
             ap (λ xs. map (question t l) h.asked ++ (xs ++ map (question t l) qs)) (e ∙ ap (λ x. x ∷ []) same_question)
-            ∙ sym (map_joined (question t l) h.asked (q ∷ qs))
+            ∙ sym (map-append (question t l) h.asked (q ∷ qs))
 
         by : Entails (map atom (fs ++ h.back)) (atom r) ⊎ (¬ Entails (map atom (fs ++ h.back)) (atom r)) → (after : List Asked) × RowsAsk t l rows (map (question t l) h.asked ++ (asked ++ after))
         by (inl y) =

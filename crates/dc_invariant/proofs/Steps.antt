@@ -36,10 +36,6 @@ put_back [] k x l e = absurd (omega arith)
 put_back (y ∷ ys) zero x l e = ap (λ z. z ∷ ys) e
 put_back (y ∷ ys) (suc k) x l e = ap (λ zs. y ∷ zs) (put_back ys k x (omega arith) e)
 
-pub map_joined : {A B : Type 0} (f : A → B) (xs ys : List A) → map f (xs ++ ys) ≡ map f xs ++ map f ys
-map_joined f [] ys = refl
-map_joined f (x ∷ xs) ys = ap (λ zs. f x ∷ zs) (map_joined f xs ys)
-
 pub filter_same : {A : Type 0} (p q : A → Bool) (xs : List A) → ((x : A) → Among x xs → p x ≡ q x) → filter p xs ≡ filter q xs
 filter_same p q [] h = refl
 filter_same p q (x ∷ xs) h = ap₂ (λ b ys. cond b (x ∷ ys) ys) (h x head) (filter_same p q xs (λ y m. h y (tail m)))

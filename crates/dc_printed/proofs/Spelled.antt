@@ -2,6 +2,7 @@
 use Rattle.std.proofs.Common.{◌≡◌, ℕ, zero, suc, ◌+◌, ◌-◌, Bool, true, false, ◌&&◌, nat_eq, List, [], ◌∷◌, ◌++◌, map, take, drop, Option, Some, refl, sym, ap, subst, ◌∙◌, arith}
 use Rattle.std.specs.Prelude.{if◌then◌else◌}
 use Rattle.std.specs.List.{AllByRecursion}
+use Rattle.std.proofs.lemmas.List.{map-append}
 use Rattle.dc_tokens.specs.declared.token.TokenKind.{TokenKind}
 use Rattle.dc_tokens.specs.declared.token.TokenKind.TheVariants as k
 use Rattle.dc_tokens.specs.declared.token.Token.{Token}
@@ -95,10 +96,6 @@ all_append : (ns ms : List (List ℕ)) → AllNames ns → AllNames ms → AllNa
 all_append [] ms h f = f
 all_append (n ∷ ns) ms h f = (h.0, all_append ns ms h.1 f)
 
-map_both : (f : Token → List ℕ) (ts us : List Token) → map f (ts ++ us) ≡ map f ts ++ map f us
-map_both f [] us = refl
-map_both f (t ∷ ts) us = ap (λ v. f t ∷ v) (map_both f ts us)
-
 pub record SourceNames (whole : List ℕ) (a : Tree Token) : Type 0 where
   pub own : IsName (spelled whole (parts_of a).name)
   pub declared : AllNames (map (spelled whole) ((parts_of a).params ++ (parts_of a).locals))
@@ -109,7 +106,7 @@ source_names whole (name (both (g.token h) (both (g.token {t = n} e) (both (g.to
     let q = (each_rest (Spells whole) u _ r).1.1 in
     record {
       own = named_token whole n s.1.0 e;
-      declared = subst AllNames (sym (map_both (spelled whole) (params_in x) (locals_in y))) (all_append _ _ (params_named whole d (each_front (Spells whole) u _ r)) (locals_named whole dl (each_front (Spells whole) v _ q)));
+      declared = subst AllNames (sym (map-append (spelled whole) (params_in x) (locals_in y))) (all_append _ _ (params_named whole d (each_front (Spells whole) u _ r)) (locals_named whole dl (each_front (Spells whole) v _ q)));
     }
 
 pub are_names : (ns : List (List ℕ)) → AllNames ns → AreNames ns
