@@ -126,20 +126,6 @@ sum_done m cs vs k p h S =
 
 pub ruleset summing = (sum_start, sum_more, sum_done)
 
--- ---- the coefficients in order
-coef_light : (p : TermList) (u : Exponents) → unsigned_abs (coef p u) ≤ weight p
-coef_light [] u = omega arith
-coef_light (t ∷ p) u = by (same_mono t.mono u) (coef_light p u)
-  where
-    by : (b : Bool) → unsigned_abs (coef p u) ≤ weight p → unsigned_abs (cond b t.coef (pos 0) +ℤ coef p u) ≤ unsigned_abs t.coef + weight p
-    by true h = omega (arith, ints)
-    by false h = omega (arith, ints)
-
-pub coef_128 : (p : TermList) (u : Exponents) (z : ℤ) → weight p ≤ largest → z ≡ coef p u → SFits w128 z
-coef_128 p u z h e = let a = coef_light p u in let b : unsigned_abs z ≡ unsigned_abs (coef p u) = ap unsigned_abs e in fits_signed_from_abs w128 z (omega arith)
-
-pub ruleset reading = (units_push, units_done)
-
 -- ---- the whole
 map_same : (f g : Exponents → ℤ) → ((u : Exponents) → f u ≡ g u) → (us : List Exponents) → map f us ≡ map g us
 map_same f g e [] = refl
