@@ -44,7 +44,7 @@ impl From<AllocError> for FormFault {
 pub const MOST_COEFFICIENT: u128 = 2147483647;
 
 /// The greatest size of an atom's constant: that of a coefficient, or one less.
-pub const MOST_CONSTANT: u128 = MOST_COEFFICIENT + 1;
+pub const MOST_CONSTANT: u128 = 2147483648;
 
 /// Whether each coefficient is at most `MOST_COEFFICIENT` in size.
 pub fn in_range(form: &Poly) -> bool
