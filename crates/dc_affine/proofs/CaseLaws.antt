@@ -1,5 +1,5 @@
 -- The atoms of facts: their order, what they say, and that they are within their sizes.
-use Rattle.std.specs.Prelude.{◌≡◌, ℕ, ◌≤◌, Bool, true, false, not, ◌&&◌, ◌||◌, ltb, if◌then◌else◌, List, [], ◌∷◌, ◌++◌, map, length, ℤ, pos, neg_ℤ, ◌+ℤ◌, ◌-ℤ◌, int_le, unsigned_abs, Some, None, refl}
+use Rattle.std.specs.Prelude.{◌≡◌, ℕ, ◌≤◌, Bool, true, false, not, ◌||◌, ltb, if◌then◌else◌, List, [], ◌∷◌, ◌++◌, map, ℤ, pos, neg_ℤ, ◌+ℤ◌, ◌-ℤ◌, unsigned_abs, Some, None, refl}
 use Rattle.std.specs.List.{AllByRecursion}
 use Rattle.std.specs.declared.option.Option.{Option}
 use Rattle.std.specs.Option.{option_or}
@@ -13,28 +13,26 @@ use Rattle.dc_syntax.specs.declared.tree.Rel.{Rel}
 use Rattle.dc_syntax.specs.declared.tree.Rel.TheVariants.{Lt, Le, Gt, Ge, Eq, Ne}
 use Rattle.dc_syntax.specs.declared.tree.Cond.{Cond, Cmp, Not, And, Or, Cond-F, roll-Cond, map-Cond, fold-roll-Cond}
 use Rattle.dc_syntax.specs.declared.tree.Cond.TheOpen as G
-use Rattle.dc_syntax.specs.Value as tree
 use Rattle.dc_syntax.specs.Value.{State}
 use Rattle.dc_syntax.specs.Trees.{EachCond}
 use Rattle.dc_syntax.proofs.Inductions.{Cond-induction}
-use Rattle.dc_poly.specs.Terms.{Exponents, TermList, Polynomial, polynomial, value, coef, degree_of, Canonical, Places}
+use Rattle.dc_poly.specs.Terms.{Exponents, TermList, Polynomial, polynomial, coef, degree_of}
 use Rattle.dc_poly.specs.Sums.{plus, negated, zeros, constant}
 use Rattle.dc_poly.specs.Affine.{units}
-use Rattle.dc_poly.proofs.Values.{value-plus, coef-plus, plus_is, Canonical-plus}
-use Rattle.dc_poly.proofs.Same.{value-negated, coef-negated}
+use Rattle.dc_poly.proofs.Values.{coef-plus, plus_is}
+use Rattle.dc_poly.proofs.Same.{coef-negated}
 use Rattle.dc_poly.proofs.Closed.{Canonical-negated}
 use Rattle.dc_poly.proofs.Degrees.{degree-negated}
-use Rattle.dc_poly.proofs.Padded.{Places-plus, Places-negated}
 use Rattle.dc_affine.specs.declared.atom.Atom.{Atom}
 use Rattle.dc_affine.specs.declared.form.FormFault.{FormFault}
 use Rattle.dc_affine.specs.declared.form.FormFault.TheVariants.{NotAffine, CoefficientRange}
 use Rattle.dc_poly.specs.NormalForm.{most, coefs_fit}
 use Rattle.dc_affine.specs.Forms.{formed, is_below, below_step, fault_of}
-use Rattle.dc_affine.specs.Table.{Fact, fact, fact_true, all_of, some_of, after, crossed, falsity, relation, opposite, facts_of, facts_step}
-use Rattle.dc_affine.specs.Atoms.{holds_at, all_hold, some_hold, AllFit, IsFullAtom, AllCases, gap_of, at_least, atom_of, conjunctions_of, gap_fault, comparison_step, comparison_fault, cond_below_step, cond_is_below}
+use Rattle.dc_affine.specs.Table.{Fact, fact, some_of, after, crossed, falsity, relation, opposite, facts_of, facts_step}
+use Rattle.dc_affine.specs.Atoms.{some_hold, IsFullAtom, AllCases, gap_of, at_least, atom_of, conjunctions_of, gap_fault, comparison_step, comparison_fault, cond_below_step, cond_is_below}
 use Rattle.dc_affine.specs.Gaps.{signed_coef, gap_atom, gap_cases, combined}
 use Rattle.dc_affine.specs.Laws.{told}
-use Rattle.dc_affine.proofs.FormLaws.{form_value, form_proper, formed-Num, and_both}
+use Rattle.dc_affine.proofs.FormLaws.{form_proper, formed-Num, and_both}
 use Rattle.dc_affine.proofs.TableLaws.{joined, facts_tell, facts-Cmp, facts-Not, facts-And, facts-Or}
 use Rattle.dc_affine.proofs.Fits.{coef_fits}
 use Rattle.dc_affine.proofs.FactAtoms.{gap_canonical, IsAffineFact, all_say, all_full}

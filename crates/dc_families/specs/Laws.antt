@@ -1,5 +1,5 @@
 -- The laws of families.
-use Rattle.std.specs.Prelude.{◌≡◌, ◌⊎◌, ◌↔◌, ℕ, ◌-◌, ◌<◌, true, List, ◌++◌, length, replicate, [], slice_index_or, ℤ, pos, ◌≤ℤ◌, Some}
+use Rattle.std.specs.Prelude.{◌≡◌, ◌⊎◌, ◌↔◌, ℕ, ◌-◌, ◌<◌, true, List, length, [], slice_index_or, ℤ, ◌≤ℤ◌, Some}
 use Rattle.dc_math.specs.Members.{Among}
 use Rattle.dc_syntax.specs.Value.{State}
 use Rattle.dc_syntax.specs.Costs.{start_with}

@@ -1,33 +1,23 @@
 -- The two facts of a chosen value between bounds: each has an affine difference.
-use Rattle.std.specs.Prelude.{◌≡◌, ℕ, ◌+◌, ◌≤◌, ◌<◌, Bool, true, false, cond, ◌&&◌, List, [], ◌∷◌, map, length, ℤ, pos, neg_ℤ, ◌+ℤ◌, ◌-ℤ◌, int_le, unsigned_abs, None, refl, ◌⊎◌}
-use Rattle.std.specs.List.{AllByRecursion}
-use Rattle.std.proofs.Common.{sym, ◌∙◌, ap, ap₂, subst, arith, inl, inr}
+use Rattle.std.specs.Prelude.{◌≡◌, ℕ, ◌+◌, ◌≤◌, ◌<◌, Bool, true, false, cond, ℤ, pos, neg_ℤ, ◌+ℤ◌, ◌-ℤ◌, unsigned_abs, None, refl, ◌⊎◌}
+use Rattle.std.proofs.Common.{sym, ◌∙◌, ap, subst, arith, inl, inr}
 use Rattle.std.proofs.lemmas.Bool.{lt-ltb}
 use Rattle.std.proofs.lemmas.Int.{ints}
-use Rattle.std.proofs.lemmas.List.{length-map}
-use Rattle.dc_math.specs.WholeVectors.{dot_ℤ}
 use Rattle.dc_syntax.specs.declared.tree.Expr.{Expr, Var, roll-Expr, fold-roll-Expr}
 use Rattle.dc_syntax.specs.declared.tree.Expr.TheOpen as F
-use Rattle.dc_syntax.specs.declared.tree.Cond.{Cond}
-use Rattle.dc_syntax.specs.Value as tree
-use Rattle.dc_syntax.specs.Value.{State}
-use Rattle.dc_poly.specs.Terms.{Exponents, TermList, value, same_mono, coef, degree_of, Canonical, Places}
-use Rattle.dc_poly.specs.Sums.{plus, negated, zeros, unit_at, variable_of}
-use Rattle.dc_poly.specs.Affine.{units}
-use Rattle.dc_poly.proofs.Values.{value-plus, coef-plus, Canonical-plus}
-use Rattle.dc_poly.proofs.Same.{value-negated, coef-negated}
-use Rattle.dc_poly.proofs.Closed.{Canonical-negated}
+use Rattle.dc_poly.specs.Terms.{Exponents, TermList, same_mono, coef, degree_of}
+use Rattle.dc_poly.specs.Sums.{plus, negated, unit_at, variable_of}
+use Rattle.dc_poly.proofs.Values.{coef-plus}
+use Rattle.dc_poly.proofs.Same.{coef-negated}
 use Rattle.dc_poly.proofs.Canon.{same_mono_is}
 use Rattle.dc_poly.proofs.Degrees.{degree-plus, degree-negated, degree-unit_at}
-use Rattle.dc_poly.proofs.Padded.{Places-plus, Places-negated}
 use Rattle.dc_poly.specs.NormalForm.{most}
 use Rattle.dc_affine.specs.Forms.{Formed, formed, is_below, below_step, affine_fault}
-use Rattle.dc_affine.specs.Table.{Fact, fact, fact_true, all_of, facts_of}
-use Rattle.dc_affine.specs.Atoms.{holds_at, all_hold, AllFit, IsAtom, gap_of, atom_of, cond_is_below, comparison_fault}
-use Rattle.dc_affine.proofs.FormLaws.{form_value, form_proper, formed-Var}
+use Rattle.dc_affine.specs.Table.{fact}
+use Rattle.dc_affine.specs.Atoms.{gap_of}
+use Rattle.dc_affine.proofs.FormLaws.{form_proper, formed-Var}
 use Rattle.dc_affine.proofs.FactAtoms.{IsAffineFact}
 use Rattle.dc_affine.proofs.Fits.{coef_fits}
-use Rattle.dc_affine.proofs.Units.{read_value, length-units}
 use Rattle.dc_system.proofs.Wider.{below_wider, form_wider, wide_coef_last}
 use Rattle.dc_system.proofs.Bounded.{affine_narrow}
 

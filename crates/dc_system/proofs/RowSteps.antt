@@ -1,10 +1,10 @@
 -- A sum of coefficients times polynomials, one after another.
-use Rattle.std.specs.Prelude.{◌≡◌, ℕ, zero, suc, ◌+◌, ◌*◌, ◌≤◌, ◌<◌, min, Bool, true, false, cond, leb, List, [], ◌∷◌, drop, map, length, get_or, ℤ, pos, negsuc, ◌+ℤ◌, ◌*ℤ◌, unsigned_abs, refl}
+use Rattle.std.specs.Prelude.{◌≡◌, ℕ, zero, suc, ◌+◌, ◌*◌, ◌≤◌, ◌<◌, min, Bool, true, leb, List, [], ◌∷◌, drop, map, length, get_or, ℤ, pos, negsuc, ◌+ℤ◌, ◌*ℤ◌, unsigned_abs, refl}
 use Rattle.std.proofs.Common.{sym, ◌∙◌, ap, ap₂, subst, arith, SFits}
 use Rattle.std.specs.Int.{w128}
 use Rattle.std.proofs.lemmas.Int.{ints, fits_signed_from_abs}
 use Rattle.dc_math.specs.WholeRing.{ring, reads, read_nat, same_form}
-use Rattle.dc_poly.specs.Terms.{Exponents, TermList, term, same_mono, coef, weight, degree_of, largest, Places, Polynomial, polynomial, IsPolynomial}
+use Rattle.dc_poly.specs.Terms.{Exponents, TermList, term, coef, weight, degree_of, Places, Polynomial, polynomial, IsPolynomial}
 use Rattle.dc_poly.specs.Sums.{zeros, constant, constant_of, plus, shifted, times, times_mono, sum_of, product_of, values}
 use Rattle.dc_poly.specs.Conditions.{CanAdd, CanMul}
 use Rattle.dc_poly.specs.Affine.{units}
@@ -14,7 +14,6 @@ use Rattle.dc_poly.proofs.Canon.{canonical_unique}
 use Rattle.dc_poly.proofs.Degrees.{degree-times, degree-constant}
 use Rattle.dc_poly.proofs.Sizes.{weight-plus, weight-times, weight-constant, mul_both}
 use Rattle.dc_poly.specs.NormalForm.{most}
-use Rattle.dc_affine.proofs.Units.{units_push, units_done}
 use Rattle.dc_system.specs.declared.edges.Edge.{Edge}
 use Rattle.dc_system.specs.declared.rows.RowAfter.{RowAfter}
 use Rattle.dc_system.specs.Shapes.{IsForm, IsEdge}
