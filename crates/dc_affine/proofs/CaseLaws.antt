@@ -1,43 +1,41 @@
 -- The atoms of facts: their order, what they say, and that they are within their sizes.
-use Rattle.std.specs.Prelude.{◌≡◌, ℕ, ◌≤◌, Bool, true, false, not, ◌&&◌, ◌||◌, ltb, if◌then◌else◌, List, [], ◌∷◌, ◌++◌, map, length, ℤ, pos, neg_ℤ, ◌+ℤ◌, ◌-ℤ◌, int_le, unsigned_abs, Some, None, refl}
+use Rattle.std.specs.Prelude.{◌≡◌, ℕ, ◌≤◌, Bool, true, false, not, ◌||◌, ltb, if◌then◌else◌, List, [], ◌∷◌, ◌++◌, map, ℤ, pos, neg_ℤ, ◌+ℤ◌, ◌-ℤ◌, unsigned_abs, Some, None, refl}
 use Rattle.std.specs.List.{AllByRecursion}
 use Rattle.std.specs.declared.option.Option.{Option}
 use Rattle.std.specs.Option.{option_or}
 use Rattle.std.proofs.Common.{sym, ◌∙◌, ap, ap₂, subst, arith, ltb-false}
 use Rattle.std.proofs.lemmas.Int.{ints}
-use Rattle.std.proofs.lemmas.List.{length-map, map-append}
-use Rattle.dc_math.specs.WholeVectors.{dot_ℤ}
+use Rattle.std.proofs.lemmas.List.{map-append}
+use Rattle.dc_math.specs.Members.{each-++}
 use Rattle.dc_syntax.specs.declared.tree.Expr.{Expr, Num, roll-Expr, fold-roll-Expr}
 use Rattle.dc_syntax.specs.declared.tree.Expr.TheOpen as F
 use Rattle.dc_syntax.specs.declared.tree.Rel.{Rel}
 use Rattle.dc_syntax.specs.declared.tree.Rel.TheVariants.{Lt, Le, Gt, Ge, Eq, Ne}
 use Rattle.dc_syntax.specs.declared.tree.Cond.{Cond, Cmp, Not, And, Or, Cond-F, roll-Cond, map-Cond, fold-roll-Cond}
 use Rattle.dc_syntax.specs.declared.tree.Cond.TheOpen as G
-use Rattle.dc_syntax.specs.Value as tree
 use Rattle.dc_syntax.specs.Value.{State}
 use Rattle.dc_syntax.specs.Trees.{EachCond}
 use Rattle.dc_syntax.proofs.Inductions.{Cond-induction}
-use Rattle.dc_poly.specs.Terms.{Exponents, TermList, Polynomial, polynomial, value, coef, degree_of, Canonical, Places}
+use Rattle.dc_poly.specs.Terms.{Exponents, TermList, Polynomial, polynomial, coef, degree_of}
 use Rattle.dc_poly.specs.Sums.{plus, negated, zeros, constant}
 use Rattle.dc_poly.specs.Affine.{units}
-use Rattle.dc_poly.proofs.Values.{value-plus, coef-plus, plus_is, Canonical-plus}
-use Rattle.dc_poly.proofs.Same.{value-negated, coef-negated}
+use Rattle.dc_poly.proofs.Values.{coef-plus, plus_is}
+use Rattle.dc_poly.proofs.Same.{coef-negated}
 use Rattle.dc_poly.proofs.Closed.{Canonical-negated}
 use Rattle.dc_poly.proofs.Degrees.{degree-negated}
-use Rattle.dc_poly.proofs.Padded.{Places-plus, Places-negated}
 use Rattle.dc_affine.specs.declared.atom.Atom.{Atom}
 use Rattle.dc_affine.specs.declared.form.FormFault.{FormFault}
 use Rattle.dc_affine.specs.declared.form.FormFault.TheVariants.{NotAffine, CoefficientRange}
 use Rattle.dc_poly.specs.NormalForm.{most, coefs_fit}
 use Rattle.dc_affine.specs.Forms.{formed, is_below, below_step, fault_of}
-use Rattle.dc_affine.specs.Table.{Fact, fact, fact_true, all_of, some_of, after, crossed, falsity, relation, opposite, facts_of, facts_step}
-use Rattle.dc_affine.specs.Atoms.{holds_at, all_hold, some_hold, AllFit, IsFullAtom, AllCases, gap_of, at_least, atom_of, conjunctions_of, gap_fault, comparison_step, comparison_fault, cond_below_step, cond_is_below}
+use Rattle.dc_affine.specs.Table.{Fact, fact, some_of, after, crossed, falsity, relation, opposite, facts_of, facts_step}
+use Rattle.dc_affine.specs.Atoms.{some_hold, IsFullAtom, AllCases, gap_of, at_least, atom_of, conjunctions_of, gap_fault, comparison_step, comparison_fault, cond_below_step, cond_is_below}
 use Rattle.dc_affine.specs.Gaps.{signed_coef, gap_atom, gap_cases, combined}
 use Rattle.dc_affine.specs.Laws.{told}
-use Rattle.dc_affine.proofs.FormLaws.{form_value, form_proper, formed-Num, and_both}
+use Rattle.dc_affine.proofs.FormLaws.{form_proper, formed-Num, and_both}
 use Rattle.dc_affine.proofs.TableLaws.{joined, facts_tell, facts-Cmp, facts-Not, facts-And, facts-Or}
-use Rattle.dc_affine.proofs.Fits.{coef_fits, fits-negated}
-use Rattle.dc_affine.proofs.Units.{read_value, length-units}
+use Rattle.dc_affine.proofs.Fits.{coef_fits}
+use Rattle.dc_affine.proofs.FactAtoms.{gap_canonical, IsAffineFact, all_say, all_full}
 
 -- ---- crossed and joined lists, mapped
 map-after : {A B : Type 0} (f : A → B) (x : List A) (gs : List (List A)) → map (map f) (after x gs) ≡ after (map f x) (map (map f) gs)
@@ -65,12 +63,6 @@ pub cases-Or : (n : ℕ) (c d : Cond) (b : Bool) → conjunctions_of n (Or c d) 
 cases-Or n c d b = ap (atoms n) (facts-Or c d b) ∙ map-joined n b (facts_of c b) (facts_of d b)
 
 -- ---- the difference turned
-gap_canonical : (n : ℕ) (a b : Expr) → Canonical (gap_of n a b)
-gap_canonical n a b = Canonical-plus (formed n a).terms (negated (formed n b).terms) (Canonical-negated (formed n b).terms (form_proper n b).in_order)
-
-gap_padded : (n : ℕ) (a b : Expr) → Places n (gap_of n a b)
-gap_padded n a b = Places-plus n (formed n a).terms (negated (formed n b).terms) (form_proper n a).padded (Places-negated n (formed n b).terms (form_proper n b).padded)
-
 gap_turned : (n : ℕ) (a b : Expr) → negated (gap_of n a b) ≡ gap_of n b a
 gap_turned n a b =
     plus_is (formed n b).terms (negated (formed n a).terms) (negated (gap_of n a b)) (Canonical-negated (formed n a).terms (form_proper n a).in_order) (Canonical-negated (gap_of n a b) (gap_canonical n a b)) (λ u.
@@ -119,69 +111,49 @@ pub never_is : (n : ℕ) → gap_atom (polynomial n []) false 1 ≡ atom_of n fa
 never_is n = ap (λ p. at_least n p 1) (sym (gap_of_zeros n))
 
 -- ---- facts whose difference is affine and within its bounds
-pub record IsFlat (n : ℕ) (f : Fact) : Type 0 where
-  pub big_below : is_below n f.big ≡ true
-  pub small_below : is_below n f.small ≡ true
-  pub low : degree_of (gap_of n f.big f.small) ≤ 1
-  pub fits : coefs_fit (gap_of n f.big f.small) ≡ true
-  pub little : f.less ≤ 1
+abbrev EachAffine : ℕ → List (List Fact) → Type 0
+EachAffine n = AllByRecursion (AllByRecursion (IsAffineFact n))
 
-abbrev AllFlat : ℕ → List Fact → Type 0
-AllFlat n [] = Unit {0}
-AllFlat n (f ∷ fs) = IsFlat n f × AllFlat n fs
+each_after : (n : ℕ) (f : List Fact) (gs : List (List Fact)) → AllByRecursion (IsAffineFact n) f → EachAffine n gs → EachAffine n (after f gs)
+each_after n f [] h k = tt
+each_after n f (g ∷ gs) h k = (each-++ (IsAffineFact n) f g h k.0, each_after n f gs h k.1)
 
-abbrev pub EachFlat : ℕ → List (List Fact) → Type 0
-EachFlat n [] = Unit {0}
-EachFlat n (f ∷ fs) = AllFlat n f × EachFlat n fs
+each_crossed : (n : ℕ) (fs gs : List (List Fact)) → EachAffine n fs → EachAffine n gs → EachAffine n (crossed fs gs)
+each_crossed n [] gs h k = tt
+each_crossed n (f ∷ fs) gs h k = each-++ (AllByRecursion (IsAffineFact n)) (after f gs) (crossed fs gs) (each_after n f gs h.0 k) (each_crossed n fs gs h.1 k)
 
-AllFlat-++ : (n : ℕ) (f g : List Fact) → AllFlat n f → AllFlat n g → AllFlat n (f ++ g)
-AllFlat-++ n [] g h k = k
-AllFlat-++ n (x ∷ f) g h k = (h.0, AllFlat-++ n f g h.1 k)
-
-EachFlat-++ : (n : ℕ) (a b : List (List Fact)) → EachFlat n a → EachFlat n b → EachFlat n (a ++ b)
-EachFlat-++ n [] b h k = k
-EachFlat-++ n (f ∷ a) b h k = (h.0, EachFlat-++ n a b h.1 k)
-
-EachFlat-after : (n : ℕ) (f : List Fact) (gs : List (List Fact)) → AllFlat n f → EachFlat n gs → EachFlat n (after f gs)
-EachFlat-after n f [] h k = tt
-EachFlat-after n f (g ∷ gs) h k = (AllFlat-++ n f g h k.0, EachFlat-after n f gs h k.1)
-
-EachFlat-crossed : (n : ℕ) (fs gs : List (List Fact)) → EachFlat n fs → EachFlat n gs → EachFlat n (crossed fs gs)
-EachFlat-crossed n [] gs h k = tt
-EachFlat-crossed n (f ∷ fs) gs h k = EachFlat-++ n (after f gs) (crossed fs gs) (EachFlat-after n f gs h.0 k) (EachFlat-crossed n fs gs h.1 k)
-
-flat_turned : (n : ℕ) (a b : Expr) (k : ℕ) → is_below n a ≡ true → is_below n b ≡ true → degree_of (gap_of n a b) ≤ 1 → coefs_fit (gap_of n a b) ≡ true → k ≤ 1 → IsFlat n (fact b a k)
-flat_turned n a b k p q d f l = record {
+affine_turned : (n : ℕ) (a b : Expr) (k : ℕ) → is_below n a ≡ true → is_below n b ≡ true → degree_of (gap_of n a b) ≤ 1 → ((u : Exponents) → unsigned_abs (coef (gap_of n a b) u) ≤ most) → k ≤ 1 → IsAffineFact n (fact b a k)
+affine_turned n a b k p q d f l = record {
   big_below = q;
   small_below = p;
   low = subst (λ x. degree_of x ≤ 1) (gap_turned n a b) (let e = degree-negated (gap_of n a b) in omega arith);
-  fits = subst (λ x. coefs_fit x ≡ true) (gap_turned n a b) (fits-negated (gap_of n a b) ∙ f);
+  small = λ u. subst (λ x. unsigned_abs (coef x u) ≤ most) (gap_turned n a b) (let e = coef-negated (gap_of n a b) u in let l = f u in omega (arith, ints));
   little = l;
 }
 
-flat_kept : (n : ℕ) (a b : Expr) (k : ℕ) → is_below n a ≡ true → is_below n b ≡ true → degree_of (gap_of n a b) ≤ 1 → coefs_fit (gap_of n a b) ≡ true → k ≤ 1 → IsFlat n (fact a b k)
-flat_kept n a b k p q d f l = record { big_below = p; small_below = q; low = d; fits = f; little = l }
+affine_kept : (n : ℕ) (a b : Expr) (k : ℕ) → is_below n a ≡ true → is_below n b ≡ true → degree_of (gap_of n a b) ≤ 1 → ((u : Exponents) → unsigned_abs (coef (gap_of n a b) u) ≤ most) → k ≤ 1 → IsAffineFact n (fact a b k)
+affine_kept n a b k p q d f l = record { big_below = p; small_below = q; low = d; small = f; little = l }
 
-relation_flat : (n : ℕ) (a : Expr) (r : Rel) (b : Expr) → is_below n a ≡ true → is_below n b ≡ true → degree_of (gap_of n a b) ≤ 1 → coefs_fit (gap_of n a b) ≡ true → EachFlat n (relation a r b)
-relation_flat n a Le b p q d f = ((flat_turned n a b 0 p q d f (omega arith), tt), tt)
-relation_flat n a Lt b p q d f = ((flat_turned n a b 1 p q d f (omega arith), tt), tt)
-relation_flat n a Ge b p q d f = ((flat_kept n a b 0 p q d f (omega arith), tt), tt)
-relation_flat n a Gt b p q d f = ((flat_kept n a b 1 p q d f (omega arith), tt), tt)
-relation_flat n a Eq b p q d f = ((flat_turned n a b 0 p q d f (omega arith), (flat_kept n a b 0 p q d f (omega arith), tt)), tt)
-relation_flat n a Ne b p q d f = ((flat_turned n a b 1 p q d f (omega arith), tt), ((flat_kept n a b 1 p q d f (omega arith), tt), tt))
+relation_affine : (n : ℕ) (a : Expr) (r : Rel) (b : Expr) → is_below n a ≡ true → is_below n b ≡ true → degree_of (gap_of n a b) ≤ 1 → ((u : Exponents) → unsigned_abs (coef (gap_of n a b) u) ≤ most) → EachAffine n (relation a r b)
+relation_affine n a Le b p q d f = ((affine_turned n a b 0 p q d f (omega arith), tt), tt)
+relation_affine n a Lt b p q d f = ((affine_turned n a b 1 p q d f (omega arith), tt), tt)
+relation_affine n a Ge b p q d f = ((affine_kept n a b 0 p q d f (omega arith), tt), tt)
+relation_affine n a Gt b p q d f = ((affine_kept n a b 1 p q d f (omega arith), tt), tt)
+relation_affine n a Eq b p q d f = ((affine_turned n a b 0 p q d f (omega arith), (affine_kept n a b 0 p q d f (omega arith), tt)), tt)
+relation_affine n a Ne b p q d f = ((affine_turned n a b 1 p q d f (omega arith), tt), ((affine_kept n a b 1 p q d f (omega arith), tt), tt))
 
 below-Num : (n k : ℕ) → is_below n (Num k) ≡ true
 unfolding roll-Expr denote.Hole.Carrier.roll
 below-Num n k = fold-roll-Expr Bool (below_step n) (F.Num k)
 
-falsity_flat : (n : ℕ) → EachFlat n ((falsity ∷ []) ∷ [])
-falsity_flat n = (
+falsity_affine : (n : ℕ) → EachAffine n ((falsity ∷ []) ∷ [])
+falsity_affine n = (
   (
     record {
       big_below = below-Num n 0;
       small_below = below-Num n 0;
       low = subst (λ x. degree_of x ≤ 1) (sym (gap_of_zeros n)) (omega arith);
-      fits = ap coefs_fit (gap_of_zeros n);
+      small = λ u. subst (λ x. unsigned_abs (coef x u) ≤ most) (sym (gap_of_zeros n)) (omega arith);
       little = omega arith;
     },
     tt,
@@ -189,111 +161,72 @@ falsity_flat n = (
   tt,
 )
 
--- ---- a condition without faults of comparisons has flat facts
+-- ---- a condition without faults of comparisons has affine facts
 none_parts : (o p : Option FormFault) → option_or o p ≡ None → (o ≡ None) × (p ≡ None)
 none_parts None p e = (refl, e)
 none_parts (Some f) p e = cc
 
-gap_flat : (p : TermList) → gap_fault p ≡ None → (degree_of p ≤ 1) × (coefs_fit p ≡ true)
-gap_flat p e = by (ltb 1 (degree_of p)) refl (coefs_fit p) refl e
+gap_affine : (p : TermList) → gap_fault p ≡ None → (degree_of p ≤ 1) × (coefs_fit p ≡ true)
+gap_affine p e = by (ltb 1 (degree_of p)) refl (coefs_fit p) refl e
   where
     by : (b : Bool) → ltb 1 (degree_of p) ≡ b → (t : Bool) → coefs_fit p ≡ t → (if b then Some NotAffine else (if t then None else Some CoefficientRange)) ≡ None → (degree_of p ≤ 1) × (t ≡ true)
     by true q t r e = cc
     by false q true r e = (ltb-false 1 (degree_of p) q, refl)
     by false q false r e = cc
 
-abbrev Flat : ℕ → Cond → Type 0
-Flat n c = cond_is_below n c ≡ true → comparison_fault n c ≡ None → EachFlat n (facts_of c false) × EachFlat n (facts_of c true)
+abbrev OfAffine : ℕ → Cond → Type 0
+OfAffine n c = cond_is_below n c ≡ true → comparison_fault n c ≡ None → EachAffine n (facts_of c false) × EachAffine n (facts_of c true)
 
-flat_layer : (n : ℕ) (L : Cond-F Cond) → EachCond (Flat n) L → cond_below_step n (map-Cond Cond Bool (cond_is_below n) L) ≡ true → comparison_step n (map-Cond Cond _ (comparison_fault n) L) ≡ None
-    → EachFlat n (facts_step (map-Cond Cond _ facts_of L) false) × EachFlat n (facts_step (map-Cond Cond _ facts_of L) true)
-flat_layer n G.True h b e = ((tt, tt), falsity_flat n)
-flat_layer n G.False h b e = (falsity_flat n, (tt, tt))
-flat_layer n (G.Cmp x r y) h b e =
+affine_layer : (n : ℕ) (L : Cond-F Cond) → EachCond (OfAffine n) L → cond_below_step n (map-Cond Cond Bool (cond_is_below n) L) ≡ true → comparison_step n (map-Cond Cond _ (comparison_fault n) L) ≡ None
+    → EachAffine n (facts_step (map-Cond Cond _ facts_of L) false) × EachAffine n (facts_step (map-Cond Cond _ facts_of L) true)
+affine_layer n G.True h b e = ((tt, tt), falsity_affine n)
+affine_layer n G.False h b e = (falsity_affine n, (tt, tt))
+affine_layer n (G.Cmp x r y) h b e =
     let p = and_both (is_below n x) (is_below n y) b in
-    let g = gap_flat (gap_of n x y) (none_parts (fault_of n y) (gap_fault (gap_of n x y)) (none_parts (fault_of n x) (option_or (fault_of n y) (gap_fault (gap_of n x y))) e).1).1 in
-    (relation_flat n x r y p.0 p.1 g.0 g.1, relation_flat n x (opposite r) y p.0 p.1 g.0 g.1)
-flat_layer n (G.Not c) h b e = let q = h b e in (q.1, q.0)
-flat_layer n (G.And c d) h b e =
+    let g = gap_affine (gap_of n x y) (none_parts (fault_of n y) (gap_fault (gap_of n x y)) (none_parts (fault_of n x) (option_or (fault_of n y) (gap_fault (gap_of n x y))) e).1).1 in
+    let f : (u : Exponents) → unsigned_abs (coef (gap_of n x y) u) ≤ most = λ u. coef_fits (gap_of n x y) u (gap_canonical n x y) g.1 in
+    (relation_affine n x r y p.0 p.1 g.0 f, relation_affine n x (opposite r) y p.0 p.1 g.0 f)
+affine_layer n (G.Not c) h b e = let q = h b e in (q.1, q.0)
+affine_layer n (G.And c d) h b e =
     let p = and_both (cond_is_below n c) (cond_is_below n d) b in
     let o = none_parts (comparison_fault n c) (comparison_fault n d) e in
     let q = h.0 p.0 o.0 in
     let r = h.1 p.1 o.1 in
-    (EachFlat-crossed n (facts_of c false) (facts_of d false) q.0 r.0, EachFlat-++ n (facts_of c true) (facts_of d true) q.1 r.1)
-flat_layer n (G.Or c d) h b e =
+    (each_crossed n (facts_of c false) (facts_of d false) q.0 r.0, each-++ (AllByRecursion (IsAffineFact n)) (facts_of c true) (facts_of d true) q.1 r.1)
+affine_layer n (G.Or c d) h b e =
     let p = and_both (cond_is_below n c) (cond_is_below n d) b in
     let o = none_parts (comparison_fault n c) (comparison_fault n d) e in
     let q = h.0 p.0 o.0 in
     let r = h.1 p.1 o.1 in
-    (EachFlat-++ n (facts_of c false) (facts_of d false) q.0 r.0, EachFlat-crossed n (facts_of c true) (facts_of d true) q.1 r.1)
+    (each-++ (AllByRecursion (IsAffineFact n)) (facts_of c false) (facts_of d false) q.0 r.0, each_crossed n (facts_of c true) (facts_of d true) q.1 r.1)
 
-facts_flat : (n : ℕ) (c : Cond) → Flat n c
-facts_flat n c = Cond-induction (Flat n) (λ L h b o.
+facts_affine : (n : ℕ) (c : Cond) → OfAffine n c
+facts_affine n c = Cond-induction (OfAffine n) (λ L h b o.
     let e : facts_of (roll-Cond L) ≡ facts_step (map-Cond Cond _ facts_of L) = fold-roll-Cond (Bool → List (List Fact)) facts_step L in
     let t : cond_is_below n (roll-Cond L) ≡ cond_below_step n (map-Cond Cond Bool (cond_is_below n) L) = fold-roll-Cond Bool (cond_below_step n) L in
     let u : comparison_fault n (roll-Cond L) ≡ comparison_step n (map-Cond Cond _ (comparison_fault n) L) = fold-roll-Cond (Option FormFault) (comparison_step n) L in
-    let p : _ = flat_layer n L h (sym t ∙ b) (sym u ∙ o) in
-    (subst (λ f. EachFlat n (f false)) (sym e) p.0, subst (λ f. EachFlat n (f true)) (sym e) p.1)) c
+    let p : _ = affine_layer n L h (sym t ∙ b) (sym u ∙ o) in
+    (subst (λ f. EachAffine n (f false)) (sym e) p.0, subst (λ f. EachAffine n (f true)) (sym e) p.1)) c
 
-pub cases_flat : (n : ℕ) (c : Cond) (negated : Bool) → cond_is_below n c ≡ true → comparison_fault n c ≡ None → EachFlat n (facts_of c negated)
-cases_flat n c false b e = (facts_flat n c b e).0
-cases_flat n c true b e = (facts_flat n c b e).1
+pub cases_affine : (n : ℕ) (c : Cond) (negated : Bool) → cond_is_below n c ≡ true → comparison_fault n c ≡ None → EachAffine n (facts_of c negated)
+cases_affine n c false b e = (facts_affine n c b e).0
+cases_affine n c true b e = (facts_affine n c b e).1
 
 -- ---- what the atoms say
-atom_says : (n : ℕ) (f : Fact) (s : State) → IsFlat n f → holds_at (atom_of n f) s ≡ fact_true f s
-atom_says n f s h =
-    let r = read_value n (gap_of n f.big f.small) s (gap_padded n f.big f.small) h.low in
-    let v = value-plus (formed n f.big).terms (negated (formed n f.small).terms) s in
-    let w = value-negated (formed n f.small).terms s in
-    let x = form_value n f.big h.big_below s in
-    let y = form_value n f.small h.small_below s in
-    ap (int_le (pos 0)) (shape (coef (gap_of n f.big f.small) (zeros n)) (dot_ℤ (map (coef (gap_of n f.big f.small)) (units n)) s) (pos f.less) (value (gap_of n f.big f.small) s) (value (formed n f.big).terms s) (value (negated (formed n f.small).terms) s) (value (formed n f.small).terms s) (tree.value f.big s) (tree.value f.small s) r v w x y)
-  where
-    shape : (c d k g p q r u v : ℤ) → c +ℤ d ≡ g → g ≡ p +ℤ q → q ≡ neg_ℤ r → p ≡ u → r ≡ v → (c -ℤ k) +ℤ d ≡ u -ℤ v -ℤ k
-    shape c d k g p q r u v e f h i j = omega (arith, ints)
-
-all_say : (n : ℕ) (fs : List Fact) (s : State) → AllFlat n fs → all_hold (map (atom_of n) fs) s ≡ all_of fs s
-all_say n [] s h = refl
-all_say n (f ∷ fs) s h = ap₂ ◌&&◌ (atom_says n f s h.0) (all_say n fs s h.1)
-
-some_say : (n : ℕ) (fs : List (List Fact)) (s : State) → EachFlat n fs → some_hold (atoms n fs) s ≡ some_of fs s
+some_say : (n : ℕ) (fs : List (List Fact)) (s : State) → EachAffine n fs → some_hold (atoms n fs) s ≡ some_of fs s
 some_say n [] s h = refl
 some_say n (f ∷ fs) s h = ap₂ ◌||◌ (all_say n f s h.0) (some_say n fs s h.1)
 
 pub cases_tell : (n : ℕ) (c : Cond) (negated : Bool) (s : State) → cond_is_below n c ≡ true → comparison_fault n c ≡ None → some_hold (conjunctions_of n c negated) s ≡ told c negated s
-cases_tell n c t s b e = some_say n (facts_of c t) s (cases_flat n c t b e) ∙ facts_tell c t s
+cases_tell n c t s b e = some_say n (facts_of c t) s (cases_affine n c t b e) ∙ facts_tell c t s
 
 -- ---- their sizes
-all_fit : (p : TermList) (us : List Exponents) → Canonical p → coefs_fit p ≡ true → AllFit (map (coef p) us)
-all_fit p [] k h = tt
-all_fit p (u ∷ us) k h = (coef_fits p u k h, all_fit p us k h)
-
-atom_full : (n : ℕ) (f : Fact) → IsFlat n f → IsFullAtom n (atom_of n f)
-atom_full n f h =
-    let g = gap_of n f.big f.small in
-    let l : length (map (coef g) (units n)) ≡ n = length-map (units n) (coef g) ∙ length-units n in
-    record {
-      one_each = l;
-      within = record {
-        few = omega arith;
-        coefs_within = all_fit g (units n) (gap_canonical n f.big f.small) h.fits;
-        constant_within = less (coef g (zeros n)) f.less (coef_fits g (zeros n) (gap_canonical n f.big f.small) h.fits) h.little;
-      };
-    }
-  where
-    less : (x : ℤ) (k : ℕ) → unsigned_abs x ≤ most → k ≤ 1 → unsigned_abs (x -ℤ pos k) ≤ 2147483648
-    less x k h l = omega (arith, ints)
-
-all_full : (n : ℕ) (fs : List Fact) → AllFlat n fs → AllByRecursion (IsFullAtom n) (map (atom_of n) fs)
-all_full n [] h = tt
-all_full n (f ∷ fs) h = (atom_full n f h.0, all_full n fs h.1)
-
-each_full : (n : ℕ) (fs : List (List Fact)) → EachFlat n fs → AllCases (IsFullAtom n) (atoms n fs)
+each_full : (n : ℕ) (fs : List (List Fact)) → EachAffine n fs → AllCases (IsFullAtom n) (atoms n fs)
 each_full n [] h = tt
 each_full n (f ∷ fs) h = (all_full n f h.0, each_full n fs h.1)
 
 pub cases_full : (n : ℕ) (c : Cond) (negated : Bool) → cond_is_below n c ≡ true → comparison_fault n c ≡ None → AllCases (IsFullAtom n) (conjunctions_of n c negated)
-cases_full n c t b e = each_full n (facts_of c t) (cases_flat n c t b e)
+cases_full n c t b e = each_full n (facts_of c t) (cases_affine n c t b e)
 
 pub never_atom : (n : ℕ) (z : Polynomial) (a : Atom) (l : List Atom) → z ≡ constant (pos 0) n → a ≡ gap_atom z false 1 → l ≡ a ∷ [] → l ≡ atom_of n falsity ∷ []
 never_atom n z a l e f g = g ∙ ap (λ x. x ∷ []) (f ∙ ap (λ x. gap_atom x false 1) e ∙ never_is n)

@@ -3,6 +3,8 @@ pub mod Fits
 pub mod Narrow
 pub mod TableLaws
 pub mod Units
+pub mod Signed
+pub mod FactAtoms
 pub mod CaseLaws
 pub mod Widths
 pub mod Crossing

@@ -70,13 +70,13 @@ weight_below n b (t ∷ p) c j d f h =
     step : (x w r b : ℕ) → x ≤ most → w ≤ most * r → r < b → x + w ≤ most * b
     step x w r b a h g = omega arith
 
-pub narrow_weight : (p : Polynomial) → IsPolynomial p → IsNormalForm p.terms → weight p.terms ≤ 2147483647 * 531441
+pub narrow_weight : (p : Polynomial) → IsPolynomial p → IsNormalForm p.terms → weight p.terms ≤ most * 531441
 narrow_weight p k h =
     let a = weight_below p.places (3 * 3 ^ p.places) p.terms k.in_order k.padded h.low h.fits (below_all p.places p.terms h.low) in
     let b : 3 ^ p.places ≤ 3 ^ 11 = power_more 3 p.places 11 (omega arith) k.few in
     last (weight p.terms) (3 ^ p.places) a b
   where
-    last : (w x : ℕ) → w ≤ most * (3 * x) → x ≤ 3 ^ 11 → w ≤ 2147483647 * 531441
+    last : (w x : ℕ) → w ≤ most * (3 * x) → x ≤ 3 ^ 11 → w ≤ most * 531441
     last w x a b = omega arith
 
 pub can_add : (p q : Polynomial) → q.places ≡ p.places → IsPolynomial p × IsPolynomial q → IsNormalForm p.terms × IsNormalForm q.terms → CanAdd p q
@@ -92,7 +92,7 @@ pub can_mul : (p q : Polynomial) → q.places ≡ p.places → IsPolynomial p ×
 can_mul p q e k h = record {
   same_places = e;
   low = (let a = h.0.low in let b = h.1.low in let d = degree-times p.terms q.terms in omega arith);
-  light = (let a = narrow_weight p k.0 h.0 in let b = narrow_weight q k.1 h.1 in let c = mul_both (weight p.terms) (2147483647 * 531441) (weight q.terms) (2147483647 * 531441) a b in omega arith);
+  light = (let a = narrow_weight p k.0 h.0 in let b = narrow_weight q k.1 h.1 in let c = mul_both (weight p.terms) (most * 531441) (weight q.terms) (most * 531441) a b in omega arith);
 }
 
 pub ruleset operands = (can_add, can_subtract, can_mul)

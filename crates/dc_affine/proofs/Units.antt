@@ -1,7 +1,7 @@
 -- The variables in order, and an affine form's value by its constant and coefficients.
 use Rattle.std.specs.Prelude.{◌≡◌, ℕ, zero, suc, ◌+◌, ◌≤◌, ◌<◌, List, [], ◌∷◌, ◌++◌, map, take, length, ℤ, pos, ◌+ℤ◌, ◌*ℤ◌, refl}
 use Rattle.std.proofs.Common.{sym, ◌∙◌, ap, ap₂, subst, arith, add-one}
-use Rattle.std.proofs.lemmas.List.{length-map}
+use Rattle.std.proofs.lemmas.List.{length-map, map_push, take-map}
 use Rattle.dc_math.specs.WholeRing.{ring, reads, read_nat, same_form}
 use Rattle.dc_math.specs.WholeVectors.{dot_ℤ}
 use Rattle.dc_poly.specs.Terms.{Exponents, TermList, coef, value, degree_of, Places}
@@ -12,20 +12,11 @@ use Rattle.dc_poly.proofs.AffineValue.{affine_value}
 abbrev after_zero : Exponents → Exponents
 after_zero u = 0 ∷ u
 
-take-map : (f : Exponents → Exponents) (n : ℕ) (us : List Exponents) → take n (map f us) ≡ map f (take n us)
-take-map f zero us = refl
-take-map f (suc n) [] = refl
-take-map f (suc n) (u ∷ us) = ap (λ y. f u ∷ y) (take-map f n us)
-
-map-push : {A : Type 0} (f : Exponents → A) (us : List Exponents) (v : Exponents) → map f (us ++ v ∷ []) ≡ map f us ++ f v ∷ []
-map-push f [] v = refl
-map-push f (u ∷ us) v = ap (λ y. f u ∷ y) (map-push f us v)
-
 units_next : (n k : ℕ) → k < n → take (suc k) (units n) ≡ take k (units n) ++ unit_at n k ∷ []
 units_next zero k h = absurd (omega arith)
 units_next (suc n) zero h = refl
 units_next (suc n) (suc k) h =
-    ap (λ y. (1 ∷ zeros n) ∷ y) (take-map after_zero (suc k) (units n) ∙ ap (map after_zero) (units_next n k (omega arith)) ∙ map-push after_zero (take k (units n)) (unit_at n k) ∙ ap (λ y. y ++ (0 ∷ unit_at n k) ∷ []) (sym (take-map after_zero k (units n))))
+    ap (λ y. (1 ∷ zeros n) ∷ y) (take-map after_zero (suc k) (units n) ∙ ap (map after_zero) (units_next n k (omega arith)) ∙ map_push after_zero (take k (units n)) (unit_at n k) ∙ ap (λ y. y ++ (0 ∷ unit_at n k) ∷ []) (sym (take-map after_zero k (units n))))
 
 pub length-units : (n : ℕ) → length (units n) ≡ n
 length-units zero = refl
@@ -33,7 +24,7 @@ length-units (suc n) = ap suc (length-map (units n) after_zero ∙ length-units 
 
 pub units_push : (f : Exponents → ℤ) (n k : ℕ) (o p : List ℤ) (x : ℤ) → k < n → x ≡ f (unit_at n k) → p ≡ o ++ x ∷ [] → o ≡ map f (take k (units n)) → p ≡ map f (take (k + 1) (units n))
 units_push f n k o p x h e g i =
-    g ∙ ap₂ (λ y z. y ++ z ∷ []) i e ∙ sym (map-push f (take k (units n)) (unit_at n k)) ∙ ap (map f) (sym (units_next n k h) ∙ ap (λ y. take y (units n)) (sym (add-one k)))
+    g ∙ ap₂ (λ y z. y ++ z ∷ []) i e ∙ sym (map_push f (take k (units n)) (unit_at n k)) ∙ ap (map f) (sym (units_next n k h) ∙ ap (λ y. take y (units n)) (sym (add-one k)))
 
 take_whole : {A : Type 0} (n : ℕ) (xs : List A) → length xs ≤ n → take n xs ≡ xs
 take_whole zero [] h = refl

@@ -1,5 +1,5 @@
 -- Affine atoms, the conjunctions of a condition as atoms, and the first fault of a condition.
-use Rattle.std.specs.Prelude.{◌≡◌, ℕ, ◌≤◌, Bool, true, false, ◌&&◌, ◌||◌, ltb, if◌then◌else◌, List, [], ◌∷◌, map, length, ℤ, pos, ◌+ℤ◌, ◌*ℤ◌, ◌-ℤ◌, int_le, unsigned_abs, Some, None}
+use Rattle.std.specs.Prelude.{◌≡◌, ℕ, ◌+◌, ◌≤◌, Bool, true, false, ◌&&◌, ◌||◌, ltb, if◌then◌else◌, List, [], ◌∷◌, map, length, ℤ, pos, ◌+ℤ◌, ◌*ℤ◌, ◌-ℤ◌, int_le, unsigned_abs, Some, None}
 use Rattle.std.specs.List.{AllByRecursion}
 use Rattle.std.specs.declared.option.Option.{Option}
 use Rattle.std.specs.declared.vec.Vec.{Vec}
@@ -46,6 +46,10 @@ abbrev pub Allowed : List (List Atom) → State → Type 0
 Allowed cases v = some_hold cases v ≡ true
 
 -- ---- sizes
+-- the largest size of a constant: a coefficient, or one less
+abbrev pub most_constant : ℕ
+most_constant = most + 1
+
 abbrev pub AllFit : List ℤ → Type 0
 AllFit [] = Unit {0}
 AllFit (c ∷ cs) = (unsigned_abs c ≤ most) × AllFit cs
@@ -54,7 +58,7 @@ AllFit (c ∷ cs) = (unsigned_abs c ≤ most) × AllFit cs
 pub record IsAtom (n : ℕ) (a : Atom) : Type 0 where
   pub few : length a.coefs ≤ n
   pub coefs_within : AllFit a.coefs
-  pub constant_within : unsigned_abs a.c0 ≤ 2147483648
+  pub constant_within : unsigned_abs a.c0 ≤ most_constant
 
 -- and one that has a coefficient for each place
 pub record IsFullAtom (n : ℕ) (a : Atom) : Type 0 where

@@ -1,11 +1,11 @@
 //! Affine atoms, and the atoms of a comparison.
 ghost use Rattle.std.specs.Prelude.{ℕ, ◌≡◌, ◌≤◌, ◌<◌, ◌≤ℤ◌, unsigned_abs, ℤ, pos, IfOk, List, [], ◌∷◌, ◌++◌, map, true};
-ghost use Rattle.dc_poly.specs.Terms.{IsPolynomial, coef};
+ghost use Rattle.std.specs.List.{AllByRecursion};
+ghost use Rattle.dc_poly.specs.Terms.{Exponents, IsPolynomial, coef};
 ghost use Rattle.dc_poly.specs.Sums.{unit_at, zeros};
 ghost use Rattle.dc_poly.specs.Affine.{units};
-ghost use Rattle.dc_poly.specs.NormalForm.{coefs_fit};
-ghost use Rattle.dc_affine.specs.Atoms.{at_least, cases_of};
-ghost use Rattle.dc_affine.specs.Gaps.{gap_atom, gap_cases, signed_coef};
+ghost use Rattle.dc_affine.specs.Atoms.{cases_of, most_constant};
+ghost use Rattle.dc_affine.specs.Gaps.{gap_atom, gap_cases, signed};
 
 use dc_poly::{Mono, Poly};
 use dc_syntax::Rel;
@@ -14,8 +14,8 @@ use std::alloc::{AllocError, Global};
 
 /// "The constant and the sum of the coefficients times the places is at least 0."
 ///
-/// A missing coefficient is 0. Coefficients have size at most 2147483647, the constant at most
-/// 2147483648.
+/// A missing coefficient is 0. Coefficients have a size of at most `MOST_COEFFICIENT`, the constant
+/// one of at most `MOST_CONSTANT`.
 #[derive(Debug, Drop)]
 pub struct Atom {
     pub c0: i64,
@@ -35,72 +35,69 @@ impl Atom {
     }
 }
 
-// The coefficient of a monomial, or its negation.
-fn coefficient(form: &Poly, mono: &Mono, turned: bool) -> i64
-    requires kind { IsPolynomial form.now }
-    requires fits { coefs_fit form.now.terms ≡ true }
-    ensures value { result ≡ signed_coef turned form.now.terms mono.now }
-    ensures small { unsigned_abs result ≤ 2147483647 }
-{
-    let coef = form.coef(mono) as i64;
-    if turned { -coef } else { coef }
-}
-
-// The coefficient of a variable, or its negation.
-fn of_variable(alloc: Global, form: &Poly, index: usize, turned: bool) -> Result<i64, AllocError>
-    requires kind { IsPolynomial form.now }
-    requires inside { index < form.now.places }
-    requires fits { coefs_fit form.now.terms ≡ true }
-    ensures value { IfOk result
-        (λ c. c ≡ signed_coef turned form.now.terms (unit_at form.now.places index)) }
-    ensures small { IfOk result (λ c. unsigned_abs c ≤ 2147483647) }
+// The coefficient of a variable.
+fn of_variable(alloc: Global, form: &Poly, index: usize) -> Result<i128, AllocError>
+    requires { index < form.now.places }
+    ensures { IfOk result (λ c. c ≡ coef form.now.terms (unit_at form.now.places index)) }
 {
     let unit = Mono::unit(alloc, index, form.places())?;
-    Ok(coefficient(form, &unit, turned))
+    Ok(form.coef(&unit))
 }
 
-// The constant, or its negation.
-fn constant(alloc: Global, form: &Poly, turned: bool) -> Result<i64, AllocError>
-    requires kind { IsPolynomial form.now }
-    requires fits { coefs_fit form.now.terms ≡ true }
-    ensures value { IfOk result (λ c. c ≡ signed_coef turned form.now.terms (zeros form.now.places)) }
-    ensures small { IfOk result (λ c. unsigned_abs c ≤ 2147483647) }
+/// The constant of a polynomial.
+pub fn constant(alloc: Global, form: &Poly) -> Result<i128, AllocError>
+    ensures { IfOk result (λ c. c ≡ coef form.now.terms (zeros form.now.places)) }
 {
     let one = Mono::one(alloc, form.places())?;
-    Ok(coefficient(form, &one, turned))
+    Ok(form.coef(&one))
 }
 
-// The coefficient of each variable in order, or its negation.
-
+/// The coefficient of each variable of a polynomial, in order.
 #[tactic(auto, using(crate::proofs::Units::reading_units))]
-fn coefficients(alloc: Global, form: &Poly, turned: bool) -> Result<Vec<i64>, AllocError>
-    requires kind { IsPolynomial form.now }
-    requires fits { coefs_fit form.now.terms ≡ true }
-    ensures { IfOk result
-        (λ v. v.items ≡ map (signed_coef turned form.now.terms) (units form.now.places)) }
+pub fn coefficients(alloc: Global, form: &Poly) -> Result<Vec<i128>, AllocError>
+    requires { IsPolynomial form.now }
+    ensures { IfOk result (λ v. v.items ≡ map (coef form.now.terms) (units form.now.places)) }
 {
-    let places = form.places();
     let mut coefs = Vec::new(alloc);
-    for k in 0..places {
-        coefs.push(of_variable(alloc, form, k, turned)?)?;
+    for k in 0..form.places() {
+        coefs.push(of_variable(alloc, form, k)?)?;
     }
     Ok(coefs)
 }
 
-// "The form less a number is at least 0", or turned, with the form's negation.
-pub(crate) fn at_least(
-    alloc: Global,
-    form: &Poly,
-    turned: bool,
-    less: i64,
-) -> Result<Atom, AllocError>
+// A number, or its negation.
+fn signed(number: i128, turned: bool) -> i64
+    requires { unsigned_abs number ≤ most_constant }
+    ensures value { result ≡ signed turned number }
+    ensures small { unsigned_abs result ≤ most_constant }
+{
+    let number = number as i64;
+    if turned { -number } else { number }
+}
+
+// Each number, or its negation.
+#[tactic(auto, using(crate::proofs::Signed::signing))]
+fn all_signed(alloc: Global, numbers: &[i128], turned: bool) -> Result<Vec<i64>, AllocError>
+    requires { AllByRecursion (λ x. unsigned_abs x ≤ most_constant) numbers.now }
+    ensures { IfOk result (λ v. v.items ≡ map (signed turned) numbers.now) }
+{
+    let mut all = Vec::new(alloc);
+    for k in 0..numbers.len() {
+        all.push(signed(numbers[k], turned))?;
+    }
+    Ok(all)
+}
+
+/// "The form less a number is at least 0", or turned, with the form's negation.
+pub fn at_least(alloc: Global, form: &Poly, turned: bool, less: i64) -> Result<Atom, AllocError>
     requires kind { IsPolynomial form.now }
-    requires fits { coefs_fit form.now.terms ≡ true }
+    requires fits { (u : Exponents) → unsigned_abs (coef form.now.terms u) ≤ most_constant }
     requires small { (pos 0 ≤ℤ less) × (less ≤ℤ pos 1) }
     ensures { IfOk result (λ a. a ≡ gap_atom form.now turned (unsigned_abs less)) }
 {
-    let coefs = coefficients(alloc, form, turned)?;
-    let constant = constant(alloc, form, turned)?;
+    let numbers = coefficients(alloc, form)?;
+    let coefs = all_signed(alloc, &numbers, turned)?;
+    let constant = signed(constant(alloc, form)?, turned);
     Ok(Atom {
         c0: constant - less,
         coefs: Items::from_vec(coefs),
@@ -119,7 +116,7 @@ pub(crate) fn single(alloc: Global, atom: Atom) -> Result<Vec<Atom>, AllocError>
 // The cases of a comparison, from the difference of its sides.
 pub(crate) fn comparison(alloc: Global, gap: &Poly, rel: Rel) -> Result<Vec<Vec<Atom>>, AllocError>
     requires kind { IsPolynomial gap.now }
-    requires fits { coefs_fit gap.now.terms ≡ true }
+    requires fits { (u : Exponents) → unsigned_abs (coef gap.now.terms u) ≤ most_constant }
     ensures { IfOk result (λ v. cases_of v.items ≡ gap_cases gap.now rel) }
 {
     let mut cases = Vec::new(alloc);

@@ -43,6 +43,9 @@ impl From<AllocError> for FormFault {
 /// The greatest size of a coefficient of a form or an atom.
 pub const MOST_COEFFICIENT: u128 = 2147483647;
 
+/// The greatest size of an atom's constant: that of a coefficient, or one less.
+pub const MOST_CONSTANT: u128 = 2147483648;
+
 /// Whether each coefficient is at most `MOST_COEFFICIENT` in size.
 pub fn in_range(form: &Poly) -> bool
     ensures { result ≡ coefs_fit form.now.terms }

@@ -6,6 +6,6 @@ mod condition;
 mod form;
 pub mod laws;
 
-pub use atom::Atom;
+pub use atom::{Atom, at_least, coefficients, constant};
 pub use condition::dnf;
-pub use form::{FormFault, MOST_COEFFICIENT, affine, in_range, normal};
+pub use form::{FormFault, MOST_COEFFICIENT, MOST_CONSTANT, affine, in_range, normal};

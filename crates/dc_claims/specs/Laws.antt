@@ -1,5 +1,5 @@
 -- The laws of claims: which of them hold together, how they are decided, and what they say of runs.
-use Rattle.std.specs.Prelude.{◌≡◌, ◌↔◌, ℕ, suc, ◌≤◌, slice_get, Some, ℤ, ◌-ℤ◌}
+use Rattle.std.specs.Prelude.{◌≡◌, ◌↔◌, ℕ, suc, slice_get, Some, ℤ, ◌-ℤ◌}
 use Rattle.dc_math.specs.Rational.{ℚ, ◌≤ℚ◌, ◌-ℚ◌, of_ℤ, NonNegative}
 use Rattle.dc_syntax.specs.declared.tree.Side.TheVariants.{New, Old}
 use Rattle.dc_syntax.specs.Value.{State}

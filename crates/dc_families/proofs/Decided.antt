@@ -3,10 +3,10 @@ use Rattle.std.specs.Prelude.{◌≡◌, ◌⊎◌, ℕ, zero, suc, ◌+◌, ◌
 use Rattle.std.proofs.Common.{refl, sym, ◌∙◌, ap, subst, inl, inr, arith, length-append}
 use Rattle.std.proofs.lemmas.Int.{ints}
 use Rattle.dc_math.specs.WholeVectors.{dot_ℤ}
-use Rattle.dc_math.specs.Rational.{ℚ, of_ℤ, le_ℚ}
+use Rattle.dc_math.specs.Rational.{of_ℤ, le_ℚ}
 use Rattle.dc_math.specs.Tests.{le_ℚ-true, le_ℚ_true}
 use Rattle.dc_affine.specs.declared.atom.Atom.{Atom}
-use Rattle.dc_points.specs.Points.{Point, left_at, MeetsAt, Entails, AreOver, IsDead}
+use Rattle.dc_points.specs.Points.{Point, left_at, Entails, AreOver}
 use Rattle.dc_points.specs.Laws.{HasLeast}
 use Rattle.dc_points.proofs.Farkas.{lists_dead_or_met, least_or_none}
 use Rattle.dc_points.proofs.Whole.{atoms_are_forms}

@@ -1,14 +1,12 @@
 -- A well formed system is a graph, also with a location folded.
-use Rattle.std.specs.Prelude.{◌≡◌, ◌⊎◌, ℕ, ◌-◌, ◌<◌, eqb, List, [], ◌∷◌, Some}
-use Rattle.std.specs.List.{AllByRecursion}
-use Rattle.std.proofs.Common.{refl, sym, ◌∙◌, ap, subst, inl, inr}
+use Rattle.std.specs.Prelude.{◌≡◌, ℕ, ◌-◌, ◌<◌, eqb, Some}
+use Rattle.std.proofs.Common.{sym, ap, subst, inl, inr}
 use Rattle.dc_math.specs.Members.{Among, head, each_among, among_each}
 use Rattle.dc_system.specs.declared.edges.Edge.{Edge}
 use Rattle.dc_system.specs.declared.edges.System.{System}
-use Rattle.dc_system.specs.Composed.{composed}
 use Rattle.dc_system.specs.Folded.{fold_at, folded}
 use Rattle.dc_system.specs.Shapes.{IsEdge, IsWellFormed, IsWithin as EndsWithin}
-use Rattle.dc_system.proofs.Filters.{InBoth, in_kept}
+use Rattle.dc_system.proofs.Filters.{in_kept}
 use Rattle.dc_system.proofs.Crossings.{made_by}
 use Rattle.dc_system.proofs.Composite.{compose_edge}
 use Rattle.dc_system.proofs.Folds.{Joined, joined_at, was}

@@ -1,5 +1,5 @@
 -- Rounds go down and are monotone; going down from a family that contains each inductive one they come to the greatest.
-use Rattle.std.specs.Prelude.{◌≡◌, ℕ, true, List}
+use Rattle.std.specs.Prelude.{◌≡◌, ℕ, List}
 use mathlib.Core.Path.{fun_ext}
 use Rattle.dc_affine.specs.declared.atom.Atom.{Atom}
 use Rattle.dc_points.specs.Points.{Point}

@@ -1,9 +1,7 @@
 -- What stands in lists.
-use Rattle.std.specs.Prelude.{◌≡◌, ◌⊎◌, ℕ, zero, suc, ◌+◌, ◌<◌, ◌≤◌, Bool, true, false, cond, List, [], ◌∷◌, ◌++◌, find, flat_map, length, slice_index_or, Some}
-use Rattle.std.specs.List.{range_with_len}
-use Rattle.std.proofs.Common.{refl, sym, ap₂, subst, inl, inr, arith}
-use Rattle.std.proofs.lemmas.Bool.{cases_lt}
-use Rattle.dc_math.specs.Members.{Among, head, tail, among-left, among-right, among-++}
+use Rattle.std.specs.Prelude.{◌≡◌, ℕ, zero, suc, ◌<◌, ◌≤◌, Bool, true, false, cond, List, [], ◌∷◌, find, length, slice_index_or, Some}
+use Rattle.std.proofs.Common.{refl, sym, ap₂, subst, arith}
+use Rattle.dc_math.specs.Members.{Among, head, tail}
 
 pub differ : {A : Type 0} → true ≡ false → A
 differ e = absurd (cc)

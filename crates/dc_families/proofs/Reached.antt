@@ -13,16 +13,14 @@ use Rattle.dc_system.specs.Shapes.{IsEdge}
 use Rattle.dc_system.specs.Paths.{at, Step, Path, here, along}
 use Rattle.dc_system.proofs.AfterValues.{atom_after_value}
 use Rattle.dc_system.proofs.Crossings.{step_length}
-use Rattle.dc_points.specs.Points.{Point, whole_point}
+use Rattle.dc_points.specs.Points.{whole_point}
 use Rattle.dc_points.proofs.Whole.{meets-holds_at, holds_at-meets, whole_points_meet}
-use Rattle.dc_rows.specs.declared.kinds.Candidates.{Candidates}
-use Rattle.dc_rows.specs.Candidate.{IsRow, AreCandidates}
+use Rattle.dc_rows.specs.Candidate.{IsRow}
 use Rattle.dc_families.specs.Graphs.{Graph, IsGraph}
-use Rattle.dc_families.specs.Families.{Family, never}
+use Rattle.dc_families.specs.Families.{Family}
 use Rattle.dc_families.specs.Moves.{at_start}
-use Rattle.dc_families.specs.Rounds.{MeetsFamily, IsOver, IsInductive, HasCandidates}
+use Rattle.dc_families.specs.Rounds.{MeetsFamily, IsOver, IsInductive}
 use Rattle.dc_families.specs.Laws.{start_at, ReachedMeet, CandidatesAreOver}
-use Rattle.dc_families.proofs.Lists.{differ}
 use Rattle.dc_families.proofs.Tests.{IsOne, is_never, is_bounded, candidate_is, everything_is}
 
 -- ---- zeros behind a point are nothing

@@ -1,7 +1,8 @@
 -- The laws of families.
-use Rattle.std.specs.Prelude.{◌≡◌, ◌⊎◌, ◌↔◌, ℕ, ◌-◌, ◌<◌, true, List, ◌++◌, length, replicate, [], slice_index_or, ℤ, pos, ◌≤ℤ◌, Some}
+use Rattle.std.specs.Prelude.{◌≡◌, ◌⊎◌, ◌↔◌, ℕ, ◌-◌, ◌<◌, true, List, length, [], slice_index_or, ℤ, ◌≤ℤ◌, Some}
 use Rattle.dc_math.specs.Members.{Among}
 use Rattle.dc_syntax.specs.Value.{State}
+use Rattle.dc_syntax.specs.Costs.{start_with}
 use Rattle.dc_affine.specs.declared.atom.Atom.{Atom}
 use Rattle.dc_affine.specs.Atoms.{Allowed, holds_at}
 use Rattle.dc_system.specs.declared.edges.Edge.{Edge}
@@ -36,7 +37,7 @@ FoldsAreGraphs =
 -- ---- paths
 -- the start on an input
 abbrev pub start_at : Graph → State → State
-start_at s v = v ++ replicate (s.vars - s.params) (pos 0)
+start_at s v = start_with s.vars s.params v
 
 -- what a path reaches from an allowed input meets an inductive family
 abbrev pub ReachedMeet : Type 0

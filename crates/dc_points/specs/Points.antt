@@ -1,11 +1,12 @@
 -- Rational points: which atoms hold there, and what a list of atoms entails.
-use Rattle.std.specs.Prelude.{◌≡◌, ℕ, ◌<◌, ◌≤◌, List, length, ℤ, pos, ◌+ℤ◌, ◌*ℤ◌, ◌≤ℤ◌, slice_index_or}
+use Rattle.std.specs.Prelude.{◌≡◌, ℕ, ◌<◌, ◌≤◌, List, length, ℤ, pos, ◌≤ℤ◌, slice_index_or}
 use Rattle.std.specs.List.{AllByRecursion}
 use Rattle.std.proofs.Common.{arith}
 use Rattle.std.proofs.lemmas.Int.{ints}
 use Rattle.dc_math.specs.WholeVectors.{dot_ℤ}
 use Rattle.dc_math.specs.Rational.{ℚ, ◌+ℚ◌, ◌*ℚ◌, of_ℤ, ◌<ℚ◌, NonNegative}
 use Rattle.dc_affine.specs.declared.atom.Atom.{Atom}
+use Rattle.dc_affine.specs.Atoms.{scaled_value}
 
 -- whole numbers over one denominator; a coordinate that is missing is 0
 pub record Point : Type 0 where
@@ -15,7 +16,7 @@ pub record Point : Type 0 where
 
 -- the left side of an atom at a point, times the denominator
 abbrev pub left_at : Atom → Point → ℤ
-left_at a p = a.c0 *ℤ p.denominator +ℤ dot_ℤ a.coefs p.numbers
+left_at a p = scaled_value a p.denominator p.numbers
 
 abbrev pub MeetsAt : Point → Atom → Type 0
 MeetsAt p a = pos 0 ≤ℤ left_at a p

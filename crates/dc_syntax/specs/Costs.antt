@@ -1,14 +1,18 @@
 -- What a finished run of a procedure costs, and which inputs are allowed.
-use Rattle.std.specs.Prelude.{◌≡◌, ◌-◌, ◌++◌, length, replicate, ℤ, pos, true, Some, None}
+use Rattle.std.specs.Prelude.{◌≡◌, ℕ, ◌-◌, ◌++◌, length, replicate, ℤ, pos, true, Some, None}
 use Rattle.std.specs.declared.option.Option.{Option}
 use Rattle.dc_syntax.specs.declared.tree.Proc.{Proc}
 use Rattle.dc_syntax.specs.declared.tree.Cond.{Cond}
 use Rattle.dc_syntax.specs.Value.{State, truth}
 use Rattle.dc_syntax.specs.Run.{Run}
 
+-- the values v of so many parameters, followed by 0 for each other of n variables
+abbrev pub start_with : ℕ → ℕ → State → State
+start_with n params v = v ++ replicate (n - params) (pos 0)
+
 -- the input v followed by 0 for each local
 abbrev pub start_of : Proc → State → State
-start_of p v = v ++ replicate (length p.names - p.params) (pos 0)
+start_of p v = start_with (length p.names) p.params v
 
 -- v has one number per parameter, and the body can run from its start to some state t at cost c
 abbrev pub Costs : Proc → State → ℤ → Type 0

@@ -1,6 +1,5 @@
 -- The steps of the loops that put values into atoms.
 use Rattle.std.specs.Prelude.{◌≡◌, ℕ, zero, suc, ◌+◌, ◌*◌, ◌≤◌, ◌<◌, Bool, true, false, ◌&&◌, leb, if◌then◌else◌, List, [], ◌∷◌, ◌++◌, map, take, drop, length, get_or, ℤ, ◌+ℤ◌, unsigned_abs, Some, None, refl}
-use Rattle.std.specs.List.{AllByRecursion}
 use Rattle.std.specs.declared.option.Option.{Option}
 use Rattle.std.proofs.Common.{sym, ◌∙◌, ap, ap₂, subst, arith, SFits}
 use Rattle.std.specs.Int.{w128}

@@ -20,7 +20,8 @@ use Rattle.dc_affine.specs.Atoms.{cond_is_below, cond_below_step, comparison_fau
 use Rattle.dc_affine.proofs.FormLaws.{and_both}
 use Rattle.dc_program.specs.Limits.{operators, cond_operators, cond_operators_step}
 use Rattle.dc_system.proofs.Wider.{cond_below_wider, comparison_wider}
-use Rattle.dc_system.proofs.Levels.{IsLevel, cases_level}
+use Rattle.dc_affine.proofs.FactAtoms.{IsAffineFact}
+use Rattle.dc_affine.proofs.CaseLaws.{cases_affine}
 use Rattle.dc_system.proofs.Points.{FactBelow, IsCase}
 
 abbrev Facts : Type 0
@@ -135,14 +136,14 @@ none_parts : (o p : Option FormFault) → option_or o p ≡ None → (o ≡ None
 none_parts None p e = (refl, e)
 none_parts (Some f) p e = cc
 
-together : (n k : ℕ) (fs : Facts) → k ≤ 64 → Below n fs → AllByRecursion (AllByRecursion (IsLevel (n + 1))) fs → AllByRecursion (Short k) fs → AllByRecursion (IsCase n) fs
+together : (n k : ℕ) (fs : Facts) → k ≤ 64 → Below n fs → AllByRecursion (AllByRecursion (IsAffineFact (n + 1))) fs → AllByRecursion (Short k) fs → AllByRecursion (IsCase n) fs
 together n k [] h a b d = tt
-together n k (f ∷ fs) h a b d = (record { below = a.0; level = b.0; few = (let l = d.0 in omega arith) }, together n k fs h a.1 b.1 d.1)
+together n k (f ∷ fs) h a b d = (record { below = a.0; affine = b.0; few = (let l = d.0 in omega arith) }, together n k fs h a.1 b.1 d.1)
 
 pub cases_pass : (n : ℕ) (c : Cond) (t : Bool) → cond_is_below n c ≡ true → dnf_fault n c t ≡ None → cond_operators c ≤ 64 → AllByRecursion (IsCase n) (facts_of c t)
 cases_pass n c t b e o =
     let w = comparison_wider n c b ∙ (none_parts (comparison_fault n c) (width_fault c t) e).0 in
-    together n (cond_operators c) (facts_of c t) o (either t (facts_below n c b).0 (facts_below n c b).1) (cases_level (n + 1) c t (cond_below_wider n c b) w) (short t (facts_short c).0 (facts_short c).1)
+    together n (cond_operators c) (facts_of c t) o (either t (facts_below n c b).0 (facts_below n c b).1) (cases_affine (n + 1) c t (cond_below_wider n c b) w) (short t (facts_short c).0 (facts_short c).1)
   where
     either : (t : Bool) → Below n (facts_of c false) → Below n (facts_of c true) → Below n (facts_of c t)
     either false p q = p

@@ -12,7 +12,7 @@ pub mod Simple
 pub mod Arms
 pub mod Weights
 pub mod Bounded
-pub mod Levels
+pub mod Chosen
 pub mod Points
 pub mod Cases
 pub mod Labels

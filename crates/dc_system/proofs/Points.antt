@@ -26,7 +26,8 @@ use Rattle.dc_graph.specs.Walks.{Acts, idles, set, picked, picked_in, paid, test
 use Rattle.dc_system.specs.Edges.{variables, unchanged, chosen, edge_of}
 use Rattle.dc_system.specs.Paths.{at, Step}
 use Rattle.dc_system.proofs.Wider.{below_wider}
-use Rattle.dc_system.proofs.Levels.{IsLevel, IsBound, atom_says, all_say, lower_level, upper_level}
+use Rattle.dc_affine.proofs.FactAtoms.{IsAffineFact, atom_says, all_say}
+use Rattle.dc_system.proofs.Chosen.{IsBound, lower_affine, upper_affine}
 
 -- ---- expressions over the variables do not see the chosen value
 abbrev Local : ℕ → Expr → Type 0
@@ -100,21 +101,21 @@ pub record FactBelow (n : ℕ) (f : Fact) : Type 0 where
   pub small : is_below n f.small ≡ true
 
 -- a form, and the parts of a conjunction
-pub record IsForm (n : ℕ) (e : Expr) : Type 0 where
+pub record IsPassed (n : ℕ) (e : Expr) : Type 0 where
   pub below : is_below n e ≡ true
   pub faultless : fault_of n e ≡ None
 
 pub record IsCase (n : ℕ) (f : List Fact) : Type 0 where
   pub below : AllByRecursion (FactBelow n) f
-  pub level : AllByRecursion (IsLevel (n + 1)) f
+  pub affine : AllByRecursion (IsAffineFact (n + 1)) f
   pub few : length f ≤ 256
 
 abbrev pub LabelPasses : ℕ → Label → Type 0
 LabelPasses n idle = Unit {0}
-LabelPasses n (sets x e) = IsForm n e
+LabelPasses n (sets x e) = IsPassed n e
 LabelPasses n (picks x) = Unit {0}
 LabelPasses n (picks_in x a b) = IsBound n a × IsBound n b
-LabelPasses n (pays e) = IsForm n e
+LabelPasses n (pays e) = IsPassed n e
 LabelPasses n (tests f) = IsCase n f
 
 -- ---- guards
@@ -126,16 +127,16 @@ facts_local n [] s z h l = refl
 facts_local n (f ∷ fs) s z h l = ap₂ ◌&&◌ (fact_local n f s z h.0 l) (facts_local n fs s z h.1 l)
 
 case_says : (n : ℕ) (f : List Fact) (s : State) (z : ℤ) → IsCase n f → length s ≡ n → all_hold (map (atom_of (n + 1)) f) (at s z) ≡ all_of f s
-case_says n f s z h l = all_say (n + 1) f (at s z) h.level ∙ facts_local n f s z h.below l
+case_says n f s z h l = all_say (n + 1) f (at s z) h.affine ∙ facts_local n f s z h.below l
 
 var_last : (n : ℕ) (s : State) (z : ℤ) → length s ≡ n → tree.value (Var n) (at s z) ≡ z
 var_last n s z l = value-Var n (at s z) ∙ last_of n s z l
 
 lower_says : (n : ℕ) (a : Expr) (s : State) (z : ℤ) → IsBound n a → length s ≡ n → holds_at (atom_of (n + 1) (fact (Var n) a 0)) (at s z) ≡ int_le (pos 0) (z -ℤ tree.value a s -ℤ pos 0)
-lower_says n a s z h l = atom_says (n + 1) (fact (Var n) a 0) (at s z) (lower_level n a h) ∙ ap₂ (λ x y. int_le (pos 0) (x -ℤ y -ℤ pos 0)) (var_last n s z l) (value_local n a h.below s z l)
+lower_says n a s z h l = atom_says (n + 1) (fact (Var n) a 0) (at s z) (lower_affine n a h) ∙ ap₂ (λ x y. int_le (pos 0) (x -ℤ y -ℤ pos 0)) (var_last n s z l) (value_local n a h.below s z l)
 
 upper_says : (n : ℕ) (b : Expr) (s : State) (z : ℤ) → IsBound n b → length s ≡ n → holds_at (atom_of (n + 1) (fact b (Var n) 0)) (at s z) ≡ int_le (pos 0) (tree.value b s -ℤ z -ℤ pos 0)
-upper_says n b s z h l = atom_says (n + 1) (fact b (Var n) 0) (at s z) (upper_level n b h) ∙ ap₂ (λ x y. int_le (pos 0) (x -ℤ y -ℤ pos 0)) (value_local n b h.below s z l) (var_last n s z l)
+upper_says n b s z h l = atom_says (n + 1) (fact b (Var n) 0) (at s z) (upper_affine n b h) ∙ ap₂ (λ x y. int_le (pos 0) (x -ℤ y -ℤ pos 0)) (value_local n b h.below s z l) (var_last n s z l)
 
 gap_to : (x y : ℤ) → x ≤ℤ y → int_le (pos 0) (y -ℤ x -ℤ pos 0) ≡ true
 gap_to x y h = of_le (pos 0) (y -ℤ x -ℤ pos 0) (omega (arith, ints))

@@ -1,10 +1,10 @@
 -- A sum of coefficients times polynomials, one after another.
-use Rattle.std.specs.Prelude.{◌≡◌, ℕ, zero, suc, ◌+◌, ◌*◌, ◌≤◌, ◌<◌, min, Bool, true, false, cond, leb, List, [], ◌∷◌, drop, map, length, get_or, ℤ, pos, negsuc, ◌+ℤ◌, ◌*ℤ◌, unsigned_abs, refl}
+use Rattle.std.specs.Prelude.{◌≡◌, ℕ, zero, suc, ◌+◌, ◌*◌, ◌≤◌, ◌<◌, min, Bool, true, leb, List, [], ◌∷◌, drop, map, length, get_or, ℤ, pos, negsuc, ◌+ℤ◌, ◌*ℤ◌, unsigned_abs, refl}
 use Rattle.std.proofs.Common.{sym, ◌∙◌, ap, ap₂, subst, arith, SFits}
 use Rattle.std.specs.Int.{w128}
 use Rattle.std.proofs.lemmas.Int.{ints, fits_signed_from_abs}
 use Rattle.dc_math.specs.WholeRing.{ring, reads, read_nat, same_form}
-use Rattle.dc_poly.specs.Terms.{Exponents, TermList, term, same_mono, coef, weight, degree_of, largest, Places, Polynomial, polynomial, IsPolynomial}
+use Rattle.dc_poly.specs.Terms.{Exponents, TermList, term, coef, weight, degree_of, Places, Polynomial, polynomial, IsPolynomial}
 use Rattle.dc_poly.specs.Sums.{zeros, constant, constant_of, plus, shifted, times, times_mono, sum_of, product_of, values}
 use Rattle.dc_poly.specs.Conditions.{CanAdd, CanMul}
 use Rattle.dc_poly.specs.Affine.{units}
@@ -14,7 +14,6 @@ use Rattle.dc_poly.proofs.Canon.{canonical_unique}
 use Rattle.dc_poly.proofs.Degrees.{degree-times, degree-constant}
 use Rattle.dc_poly.proofs.Sizes.{weight-plus, weight-times, weight-constant, mul_both}
 use Rattle.dc_poly.specs.NormalForm.{most}
-use Rattle.dc_affine.proofs.Units.{units_push, units_done}
 use Rattle.dc_system.specs.declared.edges.Edge.{Edge}
 use Rattle.dc_system.specs.declared.rows.RowAfter.{RowAfter}
 use Rattle.dc_system.specs.Shapes.{IsForm, IsEdge}
@@ -125,20 +124,6 @@ sum_done m cs vs k p h S =
     (canonical_unique p.terms (weighted cs vs) S.kind.in_order (Canonical-weighted cs vs) (λ u. dot_end cs vs k u (coef p.terms u) (coef_at cs vs u) h (S.coefs u) ∙ sym (coef-weighted cs vs u)))
 
 pub ruleset summing = (sum_start, sum_more, sum_done)
-
--- ---- the coefficients in order
-coef_light : (p : TermList) (u : Exponents) → unsigned_abs (coef p u) ≤ weight p
-coef_light [] u = omega arith
-coef_light (t ∷ p) u = by (same_mono t.mono u) (coef_light p u)
-  where
-    by : (b : Bool) → unsigned_abs (coef p u) ≤ weight p → unsigned_abs (cond b t.coef (pos 0) +ℤ coef p u) ≤ unsigned_abs t.coef + weight p
-    by true h = omega (arith, ints)
-    by false h = omega (arith, ints)
-
-pub coef_128 : (p : TermList) (u : Exponents) (z : ℤ) → weight p ≤ largest → z ≡ coef p u → SFits w128 z
-coef_128 p u z h e = let a = coef_light p u in let b : unsigned_abs z ≡ unsigned_abs (coef p u) = ap unsigned_abs e in fits_signed_from_abs w128 z (omega arith)
-
-pub ruleset reading = (units_push, units_done)
 
 -- ---- the whole
 map_same : (f g : Exponents → ℤ) → ((u : Exponents) → f u ≡ g u) → (us : List Exponents) → map f us ≡ map g us

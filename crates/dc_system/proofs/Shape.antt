@@ -32,7 +32,8 @@ use Rattle.dc_system.proofs.Wider.{widened, wide_last, form_wider, gap_wider, wi
 use Rattle.dc_system.proofs.Places.{length-variables}
 use Rattle.dc_system.proofs.Weights.{form_polynomial}
 use Rattle.dc_system.proofs.Bounded.{wide_narrow}
-use Rattle.dc_system.proofs.Levels.{gap_padded, all_sized, lower_level, upper_level}
+use Rattle.dc_affine.proofs.FactAtoms.{gap_padded, all_within}
+use Rattle.dc_system.proofs.Chosen.{lower_affine, upper_affine}
 use Rattle.dc_system.proofs.Differences.{variable_narrow}
 use Rattle.dc_system.proofs.Points.{FactBelow, LabelPasses}
 use Rattle.dc_system.proofs.Points as points
@@ -49,7 +50,7 @@ zero_narrow m = record { low = omega arith; fits = refl }
 free_form : (n : ℕ) → n ≤ 10 → IsForm (n + 1) (free n)
 free_form n h = record { has_places = refl; kind = is_constant (pos 0) (n + 1) (omega arith) (omega arith); narrow = zero_narrow (n + 1) }
 
-expr_form : (n : ℕ) (e : Expr) → n ≤ 10 → points.IsForm n e → IsForm (n + 1) (form_of (n + 1) e)
+expr_form : (n : ℕ) (e : Expr) → n ≤ 10 → points.IsPassed n e → IsForm (n + 1) (form_of (n + 1) e)
 expr_form n e h p =
     let k = wide_narrow n e p.below p.faultless in
     let q = form_proper (n + 1) e in
@@ -144,7 +145,7 @@ edge_shaped n a h p = by a.from a.to a.label p
       updates = each_set (IsForm (n + 1)) (unchanged n) x (chosen n) (variables_forms n n h) (variable_form n n h);
       cost = free_form n h;
       few_atoms = omega arith;
-      atoms = all_sized (n + 1) (fact (Var n) e 0 ∷ fact f (Var n) 0 ∷ []) (lower_level n e p.0, (upper_level n f p.1, tt));
+      atoms = all_within (n + 1) (fact (Var n) e 0 ∷ fact f (Var n) 0 ∷ []) (lower_affine n e p.0, (upper_affine n f p.1, tt));
       unchosen = λ q. cc;
     }
     by k l (pays e) p = record {
@@ -160,7 +161,7 @@ edge_shaped n a h p = by a.from a.to a.label p
       updates = variables_forms n n h;
       cost = free_form n h;
       few_atoms = (let l = length-map f (atom_of (n + 1)) in let m = p.few in omega arith);
-      atoms = all_sized (n + 1) f p.level;
+      atoms = all_within (n + 1) f p.affine;
       unchosen = λ q. record { guard = facts_skip n f p.below; update = variables_skip n n (omega arith); cost = tt };
     }
 

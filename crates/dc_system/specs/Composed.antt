@@ -8,6 +8,7 @@ use Rattle.dc_poly.specs.Sums.{zeros, sum_of, composition_of}
 use Rattle.dc_poly.specs.Affine.{units}
 use Rattle.dc_affine.specs.declared.atom.Atom.{Atom}
 use Rattle.dc_poly.specs.NormalForm.{most, coefs_fit}
+use Rattle.dc_affine.specs.Atoms.{most_constant}
 use Rattle.dc_system.specs.declared.edges.Edge.{Edge}
 use Rattle.dc_system.specs.Edges.{chosen}
 use Rattle.dc_system.specs.Paths.{Step}
@@ -54,7 +55,7 @@ numbers_fit [] = true
 numbers_fit (c ∷ cs) = leb (unsigned_abs c) most && numbers_fit cs
 
 abbrev pub atom_fits : Atom → Bool
-atom_fits a = leb (unsigned_abs a.c0) 2147483648 && numbers_fit a.coefs
+atom_fits a = leb (unsigned_abs a.c0) most_constant && numbers_fit a.coefs
 
 abbrev pub atoms_fit : List Atom → Bool
 atoms_fit [] = true

@@ -2,6 +2,7 @@
 use Rattle.std.specs.Prelude.{◌≡◌, ◌+◌, ◌≤◌, unsigned_abs}
 use Rattle.dc_poly.specs.Terms.{Exponents, coef, Polynomial, IsPolynomial}
 use Rattle.dc_poly.specs.NormalForm.{IsNormalForm}
+use Rattle.dc_affine.specs.Atoms.{most_constant}
 
 -- one of the two is a variable: at most 1 in each coefficient
 pub record CanDiffer (p q : Polynomial) : Type 0 where
@@ -9,4 +10,4 @@ pub record CanDiffer (p q : Polynomial) : Type 0 where
   pub kinds : IsPolynomial p × IsPolynomial q
   pub narrow : IsNormalForm p.terms × IsNormalForm q.terms
   pub small : (m : Exponents)
-      → unsigned_abs (coef p.terms m) + unsigned_abs (coef q.terms m) ≤ 2147483648
+      → unsigned_abs (coef p.terms m) + unsigned_abs (coef q.terms m) ≤ most_constant

@@ -3,16 +3,14 @@ ghost use Rattle.std.specs.Prelude.{ℕ, ◌≡◌, ◌≤◌, ◌*◌, ◌++◌
 ghost use Rattle.std.specs.List.{AllByRecursion};
 ghost use Rattle.dc_poly.specs.Terms.{coef as coef_of};
 ghost use Rattle.dc_poly.specs.NormalForm.{most};
-ghost use Rattle.dc_affine.specs.Atoms.{AllFit, IsAtom};
+ghost use Rattle.dc_affine.specs.Atoms.{AllFit, IsAtom, most_constant};
 ghost use Rattle.dc_system.specs.Composed.{atom_at, atom_fits, atoms_at, atoms_fit, coef_at};
 ghost use Rattle.dc_system.specs.Small.{IsGuard, IsSmall};
 
-use dc_affine::{Atom, MOST_COEFFICIENT};
+use dc_affine::{Atom, MOST_COEFFICIENT, MOST_CONSTANT};
 use dc_poly::{Mono, Poly};
 use sqlite_items::Items;
 use std::alloc::{AllocError, Global};
-
-const MOST_CONSTANT: u128 = 2147483648;
 
 // A coefficient times that of a monomial in a value.
 fn product(coef: &i64, value: &Poly, mono: &Mono) -> i128
@@ -79,7 +77,7 @@ fn atom_with(
 
 // A constant and a sum.
 fn plus(constant: &i64, sum: &i128) -> i128
-    requires constant { unsigned_abs constant.now ≤ 2147483648 }
+    requires constant { unsigned_abs constant.now ≤ most_constant }
     requires sum { unsigned_abs sum.now ≤ 11 * (most * most) }
     ensures { result ≡ constant.now +ℤ sum.now }
 {
@@ -95,7 +93,7 @@ fn exceeds(number: &i128, most: u128) -> bool
 
 // A small number, as 64 bits have it.
 fn narrow(number: &i128) -> i64
-    requires { unsigned_abs number.now ≤ 2147483648 }
+    requires { unsigned_abs number.now ≤ most_constant }
     ensures { result ≡ number.now }
 {
     *number as i64

@@ -13,7 +13,8 @@ ghost use Rattle.dc_system.specs.After.{row_after_of, weighted};
 ghost use Rattle.dc_system.specs.Shapes.{IsEdge, IsForm};
 
 use crate::edges::Edge;
-use dc_poly::{Mono, Poly};
+use dc_affine::{coefficients, constant};
+use dc_poly::Poly;
 use sqlite_items::Items;
 use std::alloc::{AllocError, Global};
 
@@ -25,7 +26,7 @@ pub struct RowAfter {
     /// One for each variable, and a last one for the value that the edge chooses.
     pub coefs: Items<i128>,
     /// Whether the form is affine after the update. Then it is the constant and the sum of the
-    /// coefficients times the places.
+    /// coefficients times the variables.
     pub is_affine: bool,
 }
 
@@ -73,36 +74,6 @@ fn sum_of(alloc: Global, coefs: &[i64], values: &[Poly], places: usize) -> Resul
         sum = plus_times(alloc, &sum, &coefs[k], &values[k])?;
     }
     Ok(sum)
-}
-
-// The constant of a polynomial.
-fn constant(alloc: Global, form: &Poly) -> Result<i128, AllocError>
-    ensures { IfOk result (λ c. c ≡ coef_of form.now.terms (zeros form.now.places)) }
-{
-    let one = Mono::one(alloc, form.places())?;
-    Ok(form.coef(&one))
-}
-
-// The coefficient of a variable.
-fn of_variable(alloc: Global, form: &Poly, index: usize) -> Result<i128, AllocError>
-    requires { index < form.now.places }
-    ensures { IfOk result (λ c. c ≡ coef_of form.now.terms (unit_at form.now.places index)) }
-{
-    let unit = Mono::unit(alloc, index, form.places())?;
-    Ok(form.coef(&unit))
-}
-
-// The coefficient of each variable in order.
-#[tactic(auto, using(crate::proofs::RowSteps::reading))]
-fn coefficients(alloc: Global, form: &Poly) -> Result<Vec<i128>, AllocError>
-    requires { IsPolynomial form.now }
-    ensures { IfOk result (λ v. v.items ≡ map (coef_of form.now.terms) (units form.now.places)) }
-{
-    let mut coefs = Vec::new(alloc);
-    for k in 0..form.places() {
-        coefs.push(of_variable(alloc, form, k)?)?;
-    }
-    Ok(coefs)
 }
 
 /// A linear form over so many variables after an edge's update.

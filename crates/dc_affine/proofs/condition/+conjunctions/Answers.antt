@@ -1,5 +1,9 @@
 use Rattle.dc_affine.proofs.CaseLaws.{made-And, made-Or, made-Cmp}
+use Rattle.dc_affine.proofs.Fits.{coefs_within}
 use Rattle.dc_affine.proofs.condition.+conjunctions.Goals as goal
+
+pub comparison-requires-clause-fits : goal.comparison-requires-clause-fits
+comparison-requires-clause-fits t c = coefs_within c.in_ok-gap-in-Cmp.gap.terms c.in_ok-gap-in-Cmp.ensures.kind.in_order c.in_ok-gap-in-Cmp.ensures.fits
 
 pub returns-in_ok-comparison-in-Cmp-clause-cases : goal.returns-in_ok-comparison-in-Cmp-clause-cases
 returns-in_ok-comparison-in-Cmp-clause-cases t c =

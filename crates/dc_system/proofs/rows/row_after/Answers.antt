@@ -3,7 +3,8 @@ use Rattle.std.specs.Int.{w128}
 use Rattle.std.proofs.lemmas.Int.{to_z-of_z}
 use Rattle.dc_poly.specs.Terms.{Polynomial, polynomial}
 use Rattle.dc_system.specs.After.{weighted}
-use Rattle.dc_system.proofs.RowSteps.{coef_128, IsRead, row_whole, row_means}
+use Rattle.dc_affine.proofs.Fits.{coef_128}
+use Rattle.dc_system.proofs.RowSteps.{IsRead, row_whole, row_means}
 use Rattle.dc_system.proofs.rows.row_after.Goals as goal
 
 read : (c : goal.After-drop-sum-inside-2) → IsRead c.args.vars c.args.edge.now c.args.row.now c.in_ok-constant.field-0 c.from_vec.result c.degree.result c.in_ok-sum.sum
