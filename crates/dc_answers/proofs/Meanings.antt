@@ -27,7 +27,7 @@ use Rattle.dc_words.specs.Reading.{Reading, for_analyse, for_check, for_sample}
 use Rattle.dc_answers.specs.declared.refusal.Refusal.{Refusal}
 use Rattle.dc_answers.specs.Sources.{SaysCases, Say}
 use Rattle.dc_answers.specs.Sources as sources
-use Rattle.dc_answers.specs.Ends.{Output, output, End, Printed, Refused, TextsEnd, misread, understood, InputEnds, stops, shows, input_of, settings_of, IsWritten, short, long, AnalyseEnds, SampleEnds, CheckEnds, no_text, has_text, CertificateEnds, fails, holds, IsSummed, ReadingEnds, Answers, usage, asked}
+use Rattle.dc_answers.specs.Ends.{Output, output, End, Printed, Refused, TextsEnd, misread, understood, InputEnds, stops, shows, input_of, IsWritten, short, long, AnalyseEnds, SampleEnds, CheckEnds, no_text, has_text, CertificateEnds, fails, holds, IsSummed, ReadingEnds, Answers, usage, asked}
 use Rattle.dc_answers.specs.Ends as ends
 use Rattle.dc_answers.specs.Claims.{claim_line}
 use Rattle.dc_answers.specs.Headline.{IsAllowed, ClaimMeans, HasInvariants, AnalysisMeans, BeginsWith, AnalyseMeans, SampleMeans, CheckMeans, Means}
@@ -184,7 +184,7 @@ module _ (o : Output) where
   pub reading_means : (q : Reading) (texts : List Bytes) → ReadingEnds q texts (Printed o) → Means q texts o.status o.bytes
   reading_means (for_analyse n w v s) [] h = h
   reading_means (for_analyse n w v s) (x ∷ []) h = h
-  reading_means (for_analyse n w v s) (x ∷ y ∷ []) h = written_means x y v (settings_of s) h
+  reading_means (for_analyse n w v s) (x ∷ y ∷ []) h = written_means x y v s h
   reading_means (for_analyse n w v s) (x ∷ y ∷ z ∷ more) h = h
   reading_means (for_check n w c v) [] h = h
   reading_means (for_check n w c v) (x ∷ []) h = h

@@ -13,8 +13,6 @@ use Rattle.dc_cert.specs.Claims.{claim_of}
 use Rattle.dc_certtext.specs.Limits.{limit, HasText}
 use Rattle.dc_certtext.proofs.Machine.{certificates}
 use Rattle.dc_certtext.proofs.Decisions.{certificate_judge}
-use Rattle.dc_words.specs.Rules.{analyse, check, sample}
-use Rattle.dc_words.specs.Taken.{takes_line}
 use Rattle.dc_words.specs.Reading.{Reading, for_analyse, for_check, for_sample, takes_words, IsReading}
 use Rattle.dc_session.specs.Session.{Input}
 use Rattle.dc_session.proofs.Stops.{one_refusal, one_certificate, certificates_exclude}
@@ -25,30 +23,14 @@ use Rattle.dc_answers.specs.Sources.{Told, says_pair, is_wrong}
 use Rattle.dc_answers.specs.Claims.{claim_status}
 use Rattle.dc_answers.specs.Ends.{Output, output, End, Printed, Refused, TextsEnd, misread, understood, InputEnds, stops, shows, of_analysis, input_of, AnalysisEnds, IsWritten, short, long, AnalyseEnds, of_check, CheckEnds, no_text, has_text, SampleEnds, IsSummed, ReadingEnds, files_of, Names, Answers, usage, asked}
 use Rattle.dc_answers.specs.Ends as ends
-use Rattle.dc_answers.specs.Ends.{CertificateEnds, fails, holds, settings_of}
+use Rattle.dc_answers.specs.Ends.{CertificateEnds, fails, holds}
 use Rattle.dc_answers.specs.Laws.{OneList, OneAnswer}
 use Rattle.dc_words.proofs.Unique.{one_reading}
+use Rattle.dc_words.proofs.Found.{reading_taken}
 use Rattle.dc_answers.proofs.Texts.{one_told}
 use Rattle.dc_answers.proofs.Checks.{one_check_fault, accepts_or_faulty}
 
 -- ---- words
-taken_of : (w : Bytes) (ws : List Bytes) (name : Bytes) → ◌≡◌ {A = Option Bytes} (Some w) (Some name) → w ≡ name
-taken_of w ws name e = cc
-
-none_some : (name : Bytes) → ◌≡◌ {A = Option Bytes} None (Some name) → ⊥
-none_some name e = cc
-
-pub reading_taken : (words : List Bytes) (read : Reading) → IsReading words read → takes_words words ≡ true
-reading_taken [] read (inl h) = absurd (none_some _ h.named)
-reading_taken [] read (inr (inl h)) = absurd (none_some _ h.named)
-reading_taken [] read (inr (inr h)) = absurd (none_some _ h.named)
-reading_taken (w ∷ ws) read (inl h) =
-    subst (λ v. takes_line analyse (v ∷ ws) ≡ true → takes_words (v ∷ ws) ≡ true) (sym (taken_of w ws (codes "analyse") h.named)) (λ t. t) h.taken
-reading_taken (w ∷ ws) read (inr (inl h)) =
-    subst (λ v. takes_line check (v ∷ ws) ≡ true → takes_words (v ∷ ws) ≡ true) (sym (taken_of w ws (codes "check") h.named)) (λ t. t) h.taken
-reading_taken (w ∷ ws) read (inr (inr h)) =
-    subst (λ v. takes_line sample (v ∷ ws) ≡ true → takes_words (v ∷ ws) ≡ true) (sym (taken_of w ws (codes "sample") h.named)) (λ t. t) h.taken
-
 taken_or_not : (b : Bool) → b ≡ false → b ≡ true → ⊥
 taken_or_not b h k = cc
 
@@ -139,8 +121,8 @@ pub one_reading_end : (read : Reading) (texts : List Bytes) (a b : End) → Read
 one_reading_end (for_analyse n o w s) [] a b h k = absurd h
 one_reading_end (for_analyse n o w s) (x ∷ []) a b h k = absurd h
 one_reading_end (for_analyse n o w s) (x ∷ y ∷ []) a b h k =
-    one_texts_end x y w (λ p q cases e. InputEnds (input_of (settings_of s) p q cases) IsWritten e)
-    (λ p q cases c d. one_input_end (input_of (settings_of s) p q cases) IsWritten one_written c d) a b h k
+    one_texts_end x y w (λ p q cases e. InputEnds (input_of s p q cases) IsWritten e)
+    (λ p q cases c d. one_input_end (input_of s p q cases) IsWritten one_written c d) a b h k
 one_reading_end (for_analyse n o w s) (x ∷ y ∷ z ∷ more) a b h k = absurd h
 one_reading_end (for_check n o c w) [] a b h k = absurd h
 one_reading_end (for_check n o c w) (x ∷ []) a b h k = absurd h

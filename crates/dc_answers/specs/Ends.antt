@@ -13,7 +13,7 @@ use Rattle.dc_cert.specs.declared.certificate.Claim.{Claim}
 use Rattle.dc_cert.specs.declared.certificate.Certificate.{Certificate}
 use Rattle.dc_cert.specs.Claims.{claim_of}
 use Rattle.dc_certtext.specs.Limits.{limit, HasText}
-use Rattle.dc_words.specs.Reading.{Search, Reading, for_analyse, for_check, for_sample, takes_words, IsReading}
+use Rattle.dc_words.specs.Reading.{Reading, for_analyse, for_check, for_sample, takes_words, IsReading}
 use Rattle.dc_check.specs.declared.fault.CheckFault.{CheckFault}
 use Rattle.dc_check.specs.declared.fault.CheckFault.TheVariants as check
 use Rattle.dc_check.specs.Answers as checks
@@ -141,11 +141,8 @@ SampleEnds seed n end =
     (IsSummed seed n) end
 
 -- ---- of what words ask for: a new command adds a line to each of these
-abbrev pub settings_of : Search → Settings
-settings_of s = record { degree = s.degree; products = s.products; pairs = s.pairs; pivots = s.pivots }
-
 abbrev pub ReadingEnds : Reading → List Bytes → End → Type 0
-ReadingEnds (for_analyse new old when s) (x ∷ y ∷ []) end = AnalyseEnds x y when (settings_of s) end
+ReadingEnds (for_analyse new old when s) (x ∷ y ∷ []) end = AnalyseEnds x y when s end
 ReadingEnds (for_check new old cert when) (x ∷ y ∷ z ∷ []) end = CheckEnds x y z when end
 ReadingEnds (for_sample seed n) [] end = SampleEnds seed n end
 ReadingEnds read texts end = ⊥

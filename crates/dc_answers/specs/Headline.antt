@@ -39,7 +39,7 @@ use Rattle.dc_words.specs.Reading.{Reading, for_analyse, for_check, for_sample}
 use Rattle.dc_answers.specs.Statuses as status
 use Rattle.dc_answers.specs.Sources.{Say}
 use Rattle.dc_answers.specs.Claims.{claim_status, claim_line, accepted_text}
-use Rattle.dc_answers.specs.Ends.{sample_text, input_of, settings_of, new_source, old_source, sample_condition, sample_settings}
+use Rattle.dc_answers.specs.Ends.{sample_text, input_of, new_source, old_source, sample_condition, sample_settings}
 
 -- ---- runs
 -- the condition is true of the input; without a condition each input is allowed
@@ -144,7 +144,7 @@ pub record CheckMeans (x y z : Bytes) (when : Option Bytes) (n : ℕ) (bytes : B
 
 -- ---- of what words ask for, over the texts of the files that they name
 abbrev pub Means : Reading → List Bytes → ℕ → Bytes → Type 0
-Means (for_analyse new old when s) (x ∷ y ∷ []) n bytes = AnalyseMeans x y when (settings_of s) n bytes
+Means (for_analyse new old when s) (x ∷ y ∷ []) n bytes = AnalyseMeans x y when s n bytes
 Means (for_check new old cert when) (x ∷ y ∷ z ∷ []) n bytes = CheckMeans x y z when n bytes
 Means (for_sample seed count) [] n bytes = SampleMeans seed count n bytes
 Means read texts n bytes = ⊥

@@ -13,6 +13,7 @@ use Rattle.dc_cert.specs.declared.certificate.Body.{Body}
 use Rattle.dc_cert.specs.declared.certificate.Body.TheVariants.{Threshold, Nothing, Vacuous}
 use Rattle.dc_cert.specs.declared.certificate.Certificate.{Certificate}
 use Rattle.dc_cert.specs.Vectors.{IsVector}
+use Rattle.dc_cert.specs.Settings.{most_degree, most_products}
 
 -- at most 1,024 vectors
 pub record AreKeeps (keeps : List Sparse) : Type 0 where
@@ -61,9 +62,9 @@ HasCases version cases = ((version ≡ 1) × (cases ≡ 1)) ⊎ ((version ≡ 2)
 pub record IsCertificate (c : Certificate) : Type 0 where
   pub cases : HasCases c.version (length c.when)
   pub body : IsBody c.body
-  pub degree : c.degree ≤ 3
+  pub degree : c.degree ≤ most_degree
   pub some_products : 1 ≤ c.products
-  pub few_products : c.products ≤ 3
+  pub few_products : c.products ≤ most_products
   pub when : AllByRecursion IsShown c.when
   pub new_side : IsSide (length c.when) c.new_side
   pub old_side : IsSide (length c.when) c.old_side

@@ -41,7 +41,7 @@ use Rattle.dc_answers.specs.Ends.{output, End, Printed, Refused, understood, inp
 use Rattle.dc_cli.specs.declared.output.Output.{Output as Made}
 use Rattle.dc_cli.specs.Fetched.{IsFetched}
 use Rattle.dc_cli.specs.Texts.{AreRead, IsMisread}
-use Rattle.dc_cli.specs.Analysed.{search_of, IsAnalysed, IsHalted, IsUnanalysed}
+use Rattle.dc_cli.specs.Analysed.{IsAnalysed, IsHalted, IsUnanalysed}
 use Rattle.dc_cli.specs.Steps.{IsRefusedBy, IsOutputOf, IsRefusedOf, IsOutputFor, IsRefusedFor}
 use Rattle.dc_cli.proofs.Refused.{refused_map, halted, unanalysed_halted, unanalysed_end, analysed_end, certificate_end, misread_end, over_files, for_words}
 
@@ -111,14 +111,14 @@ module _ (v : Visit) (new old : Bytes) (when : Option Bytes) (s : Settings) (x y
   moved_ends z k = subst (λ p. AnalyseEnds p y when s z) e (subst (λ q. AnalyseEnds a q when s z) f k)
 
   pub analyse_output : (left : Meaning) (o : Result Made Refusal) → IfOk o (λ w. AnalyseEnds a b when s (Printed (output w.status w.bytes.items (Some left))))
-      → IfOk o (λ w. IsOutputOf v (for_analyse new old when (search_of s)) left w.status w.bytes.items)
+      → IfOk o (λ w. IsOutputOf v (for_analyse new old when s) left w.status w.bytes.items)
   analyse_output left (Ok w) k = record { texts = x ∷ y ∷ []; fetched = h; rest = Some left; due = moved_ends _ k; is_left = refl }
   analyse_output left (Err z) k = tt
 
-  pub analyse_unput : (o : Result Made Refusal) → IfErr o (IsRefusedBy (AnalyseEnds a b when s)) → IfErr o (IsRefusedOf v (for_analyse new old when (search_of s)))
+  pub analyse_unput : (o : Result Made Refusal) → IfErr o (IsRefusedBy (AnalyseEnds a b when s)) → IfErr o (IsRefusedOf v (for_analyse new old when s))
   analyse_unput (Ok w) k = tt
   analyse_unput (Err z) k =
-      over_files v (files_of (for_analyse new old when (search_of s))) (ReadingEnds (for_analyse new old when (search_of s))) (x ∷ y ∷ []) z h
+      over_files v (files_of (for_analyse new old when s)) (ReadingEnds (for_analyse new old when s)) (x ∷ y ∷ []) z h
       (refused_map (AnalyseEnds a b when s) (AnalyseEnds x y when s) moved_ends z k)
 
 -- ---- a check

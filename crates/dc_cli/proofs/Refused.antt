@@ -11,7 +11,7 @@ use Rattle.dc_lp.specs.Meanings.{Meaning}
 use Rattle.dc_cert.specs.declared.certificate.Settings.{Settings}
 use Rattle.dc_cert.specs.declared.certificate.Certificate.{Certificate}
 use Rattle.dc_words.specs.declared.Words.TheVariants.{Analyse, Check}
-use Rattle.dc_words.specs.Reading.{Reading, for_analyse, for_check, for_sample, reading_of, IsReading}
+use Rattle.dc_words.specs.Reading.{Reading, for_analyse, for_check, for_sample, reading_of, IsReading, to_analyse, to_check, to_sample}
 use Rattle.dc_session.specs.declared.fault.PastAt.TheVariants.{Pivot, Fold}
 use Rattle.dc_session.specs.declared.fault.AnalyseFault.{AnalyseFault}
 use Rattle.dc_session.specs.declared.fault.AnalyseFault.TheVariants as analyse
@@ -122,26 +122,17 @@ for_words v words q Usage k h = absurd h
 for_words v words q _ k h = (q, k, h)
 
 pub in_range : (words : List Bytes) (q : Reading) → IsReading words q → IsInRange q
-in_range words (for_analyse n o w s) (inl h) =
-    let k = h.asked.3 in
-    record {
-      degree = k.degree_is.2;
-      some_products = k.products_is.1;
-      few_products = k.products_is.2;
-      some_pivots = k.pivots_is.1;
-      few_pivots = k.pivots_is.2;
-    }
-in_range words (for_analyse n o w s) (inr (inl h)) = absurd h.asked
-in_range words (for_analyse n o w s) (inr (inr h)) = absurd h.asked
+in_range words (for_analyse n o w s) (to_analyse, h) = h.asked.3.limits
+in_range words (for_analyse n o w s) (to_check, h) = absurd h.asked
+in_range words (for_analyse n o w s) (to_sample, h) = absurd h.asked
 in_range words (for_check n o c w) h = tt
-in_range words (for_sample seed n) (inl h) = absurd h.asked
-in_range words (for_sample seed n) (inr (inl h)) = absurd h.asked
-in_range words (for_sample seed n) (inr (inr h)) = (h.asked.0.2, h.asked.1.1, h.asked.1.2)
+in_range words (for_sample seed n) (to_analyse, h) = absurd h.asked
+in_range words (for_sample seed n) (to_check, h) = absurd h.asked
+in_range words (for_sample seed n) (to_sample, h) = (h.asked.0.2, h.asked.1.1, h.asked.1.2)
 
-pub analyse_reading : (n o : String Global) (w : Option (String Global)) (d p : ℕ) (b : Bool) (q : ℕ) (x y : Bytes) (u : Option Bytes)
-    → x ≡ string_bytes n → y ≡ string_bytes o → u ≡ option_map string_bytes w
-    → for_analyse x y u (record { degree = d; products = p; pairs = b; pivots = q }) ≡ reading_of (Analyse n o w d p b q)
-analyse_reading n o w d p b q x y u e f g = λ i. for_analyse (e i) (f i) (g i) (record { degree = d; products = p; pairs = b; pivots = q })
+pub analyse_reading : (n o : String Global) (w : Option (String Global)) (s t : Settings) (x y : Bytes) (u : Option Bytes)
+    → x ≡ string_bytes n → y ≡ string_bytes o → u ≡ option_map string_bytes w → t ≡ s → for_analyse x y u t ≡ reading_of (Analyse n o w s)
+analyse_reading n o w s t x y u e f g h = λ i. for_analyse (e i) (f i) (g i) (h i)
 
 pub check_reading : (n o c : String Global) (w : Option (String Global)) (x y z : Bytes) (u : Option Bytes)
     → x ≡ string_bytes n → y ≡ string_bytes o → z ≡ string_bytes c → u ≡ option_map string_bytes w → for_check x y z u ≡ reading_of (Check n o c w)

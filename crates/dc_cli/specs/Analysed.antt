@@ -7,7 +7,6 @@ use Rattle.dc_lp.specs.Meanings.{Meaning}
 use Rattle.dc_cert.specs.declared.certificate.Settings.{Settings}
 use Rattle.dc_cert.specs.declared.certificate.Certificate.{Certificate}
 use Rattle.dc_cert.specs.Ranges.{IsCertificate}
-use Rattle.dc_words.specs.Reading.{Search}
 use Rattle.dc_session.specs.declared.fault.AnalyseFault.{AnalyseFault}
 use Rattle.dc_session.specs.Session.{Input}
 use Rattle.dc_session.specs.Refusals.{IsRefusal}
@@ -16,10 +15,6 @@ use Rattle.dc_answers.specs.declared.refusal.Refusal.{Refusal}
 use Rattle.dc_answers.specs.declared.refusal.Refusal.TheVariants.{Source, TooLarge, PastPivot, PastFold, Spent, NoMemory}
 use Rattle.dc_answers.specs.Sources.{Tells, is_wrong, Say}
 use Rattle.dc_answers.specs.Ends.{input_of, of_analysis}
-
--- how a bound is sought, as words ask for it
-abbrev pub search_of : Settings → Search
-search_of s = record { degree = s.degree; products = s.products; pairs = s.pairs; pivots = s.pivots }
 
 -- the certificate of what texts say
 pub record IsAnalysed (x y : Bytes) (when : Option Bytes) (s : Settings) (left : Meaning)

@@ -7,7 +7,7 @@ use Rattle.dc_cert.specs.Settings.{AreSettings}
 use Rattle.dc_words.specs.Reading.{Reading, for_analyse, for_check, for_sample, takes_words, IsReading}
 use Rattle.dc_answers.specs.declared.refusal.Refusal.{Refusal}
 use Rattle.dc_answers.specs.declared.refusal.Refusal.TheVariants.{Usage, Unread, Unwritten, NoMemory}
-use Rattle.dc_answers.specs.Ends.{output, End, Printed, Refused, files_of, settings_of, ReadingEnds}
+use Rattle.dc_answers.specs.Ends.{output, End, Printed, Refused, files_of, ReadingEnds}
 use Rattle.dc_answers.specs.Outside.{File, Visit}
 use Rattle.dc_answers.specs.Promise.{IsLeft}
 use Rattle.dc_cli.specs.Fetched.{IsFetched, IsStopped}
@@ -44,7 +44,7 @@ IsRefused v files Of refusal =
 -- ---- what words ask for
 -- numbers that the command takes
 abbrev pub IsInRange : Reading → Type 0
-IsInRange (for_analyse new old when s) = AreSettings (settings_of s)
+IsInRange (for_analyse new old when s) = AreSettings s
 IsInRange (for_check new old cert when) = Unit {0}
 IsInRange (for_sample seed n) = (seed ≤ 2147483647) × (1 ≤ n) × (n ≤ 8)
 

@@ -9,7 +9,7 @@ ghost use Rattle.dc_words.specs.Reading.{for_analyse};
 ghost use Rattle.dc_answers.specs.Ends.{output, Printed, AnalyseEnds, IsWritten, input_of, of_analysis};
 ghost use Rattle.dc_answers.specs.Outside.{visit_of};
 ghost use Rattle.dc_cli.specs.Texts.{AreRead};
-ghost use Rattle.dc_cli.specs.Analysed.{search_of, IsAnalysed, IsHalted, IsUnanalysed};
+ghost use Rattle.dc_cli.specs.Analysed.{IsAnalysed, IsHalted, IsUnanalysed};
 ghost use Rattle.dc_cli.specs.Steps.{IsRefusedBy, IsOutputOf, IsRefusedOf};
 
 use crate::claims;
@@ -40,11 +40,11 @@ pub fn analyse<S: Store>(
     ensures files { S.files store.new ≡ S.files store.old }
     ensures later { S.faults store.old ≤ S.faults store.new }
     ensures ok { IfOk result (λ o. IsOutputOf (visit_of S.files S.faults S.call store.old store.new)
-        (for_analyse new.now old.now (option_map (λ z. z.now) when.entry) (search_of settings.now))
+        (for_analyse new.now old.now (option_map (λ z. z.now) when.entry) settings.now)
         (cross_meaning tableau.new) o.status o.bytes.items) }
     ensures refused { IfErr result (IsRefusedOf (visit_of S.files S.faults S.call store.old
-        store.new) (for_analyse new.now old.now (option_map (λ z. z.now) when.entry) (search_of
-        settings.now))) }
+        store.new) (for_analyse new.now old.now (option_map (λ z. z.now) when.entry)
+        settings.now)) }
 {
     let texts = fetch_sources(alloc, store, new, old)?;
     analyse_texts(

@@ -11,7 +11,6 @@ use crate::check::check;
 use crate::output::Output;
 use crate::sample::sample;
 use dc_answers::Refusal;
-use dc_cert::Settings;
 use dc_host::Store;
 use dc_sparse::Cross;
 use dc_words::{Words, WordsFault, read_words};
@@ -59,19 +58,10 @@ fn answer<S: Store>(
             new_name,
             old_name,
             when,
-            degree,
-            products,
-            pairs,
-            pivots,
+            settings,
         } => {
-            let settings = Settings {
-                degree: *degree,
-                products: *products,
-                pairs: *pairs,
-                pivots: *pivots,
-            };
             let (new, old) = (new_name.as_str(), old_name.as_str());
-            analyse(alloc, store, new, old, text_in(when), &settings, tableau)
+            analyse(alloc, store, new, old, text_in(when), settings, tableau)
         }
         Words::Check {
             new_name,

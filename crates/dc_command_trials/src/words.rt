@@ -7,7 +7,7 @@ use std::test::Fail;
 const TAKEN: [(&[&str], &str); 18] = [
     (
         &["analyse", "a", "b"],
-        "Analyse { new_name: \"a\", old_name: \"b\", when: None, degree: 2, products: 2, pairs: true, pivots: 100000 }",
+        "Analyse { new_name: \"a\", old_name: \"b\", when: None, settings: Settings { degree: 2, products: 2, pairs: true, pivots: 100000 } }",
     ),
     (
         &[
@@ -22,7 +22,7 @@ const TAKEN: [(&[&str], &str); 18] = [
             "--pivots",
             "1",
         ],
-        "Analyse { new_name: \"a\", old_name: \"b\", when: None, degree: 0, products: 1, pairs: false, pivots: 1 }",
+        "Analyse { new_name: \"a\", old_name: \"b\", when: None, settings: Settings { degree: 0, products: 1, pairs: false, pivots: 1 } }",
     ),
     (
         &[
@@ -36,47 +36,47 @@ const TAKEN: [(&[&str], &str); 18] = [
             "--pivots",
             "1000000",
         ],
-        "Analyse { new_name: \"a\", old_name: \"b\", when: None, degree: 3, products: 3, pairs: true, pivots: 1000000 }",
+        "Analyse { new_name: \"a\", old_name: \"b\", when: None, settings: Settings { degree: 3, products: 3, pairs: true, pivots: 1000000 } }",
     ),
     (
         &["analyse", "a", "b", "--when", "0 <= n && n <= 9"],
-        "Analyse { new_name: \"a\", old_name: \"b\", when: Some(\"0 <= n && n <= 9\"), degree: 2, products: 2, pairs: true, pivots: 100000 }",
+        "Analyse { new_name: \"a\", old_name: \"b\", when: Some(\"0 <= n && n <= 9\"), settings: Settings { degree: 2, products: 2, pairs: true, pivots: 100000 } }",
     ),
     (
         &["analyse", "a", "b", "--when=-n >= 0"],
-        "Analyse { new_name: \"a\", old_name: \"b\", when: Some(\"-n >= 0\"), degree: 2, products: 2, pairs: true, pivots: 100000 }",
+        "Analyse { new_name: \"a\", old_name: \"b\", when: Some(\"-n >= 0\"), settings: Settings { degree: 2, products: 2, pairs: true, pivots: 100000 } }",
     ),
     (
         &["analyse", "a", "b", "--when="],
-        "Analyse { new_name: \"a\", old_name: \"b\", when: Some(\"\"), degree: 2, products: 2, pairs: true, pivots: 100000 }",
+        "Analyse { new_name: \"a\", old_name: \"b\", when: Some(\"\"), settings: Settings { degree: 2, products: 2, pairs: true, pivots: 100000 } }",
     ),
     (
         &["analyse", "--", "-a", "--degree"],
-        "Analyse { new_name: \"-a\", old_name: \"--degree\", when: None, degree: 2, products: 2, pairs: true, pivots: 100000 }",
+        "Analyse { new_name: \"-a\", old_name: \"--degree\", when: None, settings: Settings { degree: 2, products: 2, pairs: true, pivots: 100000 } }",
     ),
     (
         &["analyse", "", "b"],
-        "Analyse { new_name: \"\", old_name: \"b\", when: None, degree: 2, products: 2, pairs: true, pivots: 100000 }",
+        "Analyse { new_name: \"\", old_name: \"b\", when: None, settings: Settings { degree: 2, products: 2, pairs: true, pivots: 100000 } }",
     ),
     (
         &["analyse", "-", "help"],
-        "Analyse { new_name: \"-\", old_name: \"help\", when: None, degree: 2, products: 2, pairs: true, pivots: 100000 }",
+        "Analyse { new_name: \"-\", old_name: \"help\", when: None, settings: Settings { degree: 2, products: 2, pairs: true, pivots: 100000 } }",
     ),
     (
         &["analyse", "a", "b", "--degree", "+3"],
-        "Analyse { new_name: \"a\", old_name: \"b\", when: None, degree: 3, products: 2, pairs: true, pivots: 100000 }",
+        "Analyse { new_name: \"a\", old_name: \"b\", when: None, settings: Settings { degree: 3, products: 2, pairs: true, pivots: 100000 } }",
     ),
     (
         &["analyse", "a", "b", "--degree", "0003"],
-        "Analyse { new_name: \"a\", old_name: \"b\", when: None, degree: 3, products: 2, pairs: true, pivots: 100000 }",
+        "Analyse { new_name: \"a\", old_name: \"b\", when: None, settings: Settings { degree: 3, products: 2, pairs: true, pivots: 100000 } }",
     ),
     (
         &["analyse", "a", "b", "--degree=-0"],
-        "Analyse { new_name: \"a\", old_name: \"b\", when: None, degree: 0, products: 2, pairs: true, pivots: 100000 }",
+        "Analyse { new_name: \"a\", old_name: \"b\", when: None, settings: Settings { degree: 0, products: 2, pairs: true, pivots: 100000 } }",
     ),
     (
         &["analyse", "a", "b", "--pivots", "+0012"],
-        "Analyse { new_name: \"a\", old_name: \"b\", when: None, degree: 2, products: 2, pairs: true, pivots: 12 }",
+        "Analyse { new_name: \"a\", old_name: \"b\", when: None, settings: Settings { degree: 2, products: 2, pairs: true, pivots: 12 } }",
     ),
     (
         &["check", "a", "b", "c"],

@@ -19,9 +19,7 @@ use Rattle.dc_certtext.specs.Text.{text_of}
 use Rattle.dc_certtext.proofs.Machine.{certificates}
 use Rattle.dc_certtext.proofs.Decisions.{certificate_judge}
 use Rattle.dc_check.specs.Answers.{Accepts}
-use Rattle.dc_words.specs.Rules.{analyse}
-use Rattle.dc_words.specs.Taken.{line_rows}
-use Rattle.dc_words.specs.Reading.{Search, Reading, for_analyse, for_check, for_sample, IsSettings, IsReading}
+use Rattle.dc_words.specs.Reading.{Reading, for_analyse, for_check, for_sample, IsReading, to_analyse, to_check, to_sample}
 use Rattle.dc_session.specs.declared.fault.AnalyseFault.{AnalyseFault}
 use Rattle.dc_session.specs.Session.{Input}
 use Rattle.dc_session.specs.Refusals.{IsRefusal}
@@ -33,7 +31,7 @@ use Rattle.dc_endings.proofs.Ends.{each_ends}
 use Rattle.dc_endings.proofs.Checks.{each_is_checked}
 use Rattle.dc_answers.specs.declared.refusal.Refusal.TheVariants as r
 use Rattle.dc_answers.specs.Sources.{SaysCases, SayPair, all_say}
-use Rattle.dc_answers.specs.Ends.{output, End, Printed, Refused, TextsEnd, misread, understood, InputEnds, stops, shows, of_analysis, input_of, AnalysisEnds, IsWritten, short, long, AnalyseEnds, of_check, CertificateEnds, fails, holds, CheckEnds, no_text, has_text, IsSummed, sample_settings, settings_of, ReadingEnds, files_of, Names, Answers, usage, asked}
+use Rattle.dc_answers.specs.Ends.{output, End, Printed, Refused, TextsEnd, misread, understood, InputEnds, stops, shows, of_analysis, input_of, AnalysisEnds, IsWritten, short, long, AnalyseEnds, of_check, CertificateEnds, fails, holds, CheckEnds, no_text, has_text, IsSummed, sample_settings, ReadingEnds, files_of, Names, Answers, usage, asked}
 use Rattle.dc_answers.specs.Ends as ends
 use Rattle.dc_existence.specs.Laws.{HasAnswer}
 use Rattle.dc_existence.proofs.Told.{AreRead, are_read}
@@ -142,23 +140,14 @@ check_end x y z when = by o.some_outcome
     by (inr (line, h)) = (Refused (r.BadCertificate line), no_text line h refl)
 
 -- ---- what words ask for
-within : (rows : List Row) (s : Search) → IsSettings rows s.degree s.products s.pairs s.pivots → AreSettings (settings_of s)
-within rows s h = record {
-  degree = h.degree_is.2;
-  some_products = h.products_is.1;
-  few_products = h.products_is.2;
-  some_pivots = h.pivots_is.1;
-  few_pivots = h.pivots_is.2;
-}
-
-search_of : (words : List Bytes) (n o : Bytes) (w : Option Bytes) (s : Search) → IsReading words (for_analyse n o w s) → AreSettings (settings_of s)
-search_of words n o w s (inl h) = within (line_rows analyse words) s h.asked.3
-search_of words n o w s (inr (inl h)) = absurd h.asked
-search_of words n o w s (inr (inr h)) = absurd h.asked
+settings_within : (words : List Bytes) (n o : Bytes) (w : Option Bytes) (s : Settings) → IsReading words (for_analyse n o w s) → AreSettings s
+settings_within words n o w s (to_analyse, h) = h.asked.3.limits
+settings_within words n o w s (to_check, h) = absurd h.asked
+settings_within words n o w s (to_sample, h) = absurd h.asked
 
 reading_end : (words : List Bytes) (read : Reading) → IsReading words read → (texts : List Bytes) → length texts ≡ length (files_of read)
     → (end : End) × ReadingEnds read texts end
-reading_end words (for_analyse n o w s) h (x ∷ y ∷ []) e = analyse_end x y w (settings_of s) (search_of words n o w s h)
+reading_end words (for_analyse n o w s) h (x ∷ y ∷ []) e = analyse_end x y w s (settings_within words n o w s h)
 reading_end words (for_analyse n o w s) h [] e = absurd (omega arith)
 reading_end words (for_analyse n o w s) h (x ∷ []) e = absurd (omega arith)
 reading_end words (for_analyse n o w s) h (x ∷ y ∷ z ∷ more) e = absurd (omega arith)

@@ -17,7 +17,7 @@ use Rattle.dc_session.specs.Refusals.{IsRefusal}
 use Rattle.dc_answers.specs.declared.refusal.Text.{Text}
 use Rattle.dc_answers.specs.declared.refusal.Wrong.{Wrong}
 use Rattle.dc_answers.specs.declared.refusal.Refusal.TheVariants as r
-use Rattle.dc_answers.specs.Ends.{Output, End, Printed, Refused, TextsEnd, misread, understood, InputEnds, stops, shows, of_analysis, input_of, IsWritten, short, long, of_check, CertificateEnds, fails, holds, CheckEnds, no_text, has_text, IsSummed, sample_settings, settings_of, ReadingEnds, usage, asked}
+use Rattle.dc_answers.specs.Ends.{Output, End, Printed, Refused, TextsEnd, misread, understood, InputEnds, stops, shows, of_analysis, input_of, IsWritten, short, long, of_check, CertificateEnds, fails, holds, CheckEnds, no_text, has_text, IsSummed, sample_settings, ReadingEnds, usage, asked}
 use Rattle.dc_existence.specs.Laws.{WantIsNoAnswer}
 
 abbrev want : End
@@ -77,8 +77,8 @@ reading_spared : (read : Reading) (texts : List Bytes) → ¬ ReadingEnds read t
 reading_spared (for_analyse n o w s) [] h = h
 reading_spared (for_analyse n o w s) (x ∷ []) h = h
 reading_spared (for_analyse n o w s) (x ∷ y ∷ []) h =
-    texts_spared x y w (λ p q cases e. InputEnds (input_of (settings_of s) p q cases) IsWritten e)
-    (λ p q cases k. input_spared (input_of (settings_of s) p q cases) IsWritten written_spared k) h
+    texts_spared x y w (λ p q cases e. InputEnds (input_of s p q cases) IsWritten e)
+    (λ p q cases k. input_spared (input_of s p q cases) IsWritten written_spared k) h
 reading_spared (for_analyse n o w s) (x ∷ y ∷ z ∷ more) h = h
 reading_spared (for_check n o c w) [] h = h
 reading_spared (for_check n o c w) (x ∷ []) h = h

@@ -13,7 +13,8 @@ use Rattle.clap.proofs.ValueTestLemmas.{accepts-Accepts}
 use Rattle.clap.proofs.SimpleLemmas.{is_nil}
 use Rattle.dc_words.specs.Rules.{analyse, check, sample}
 use Rattle.dc_words.specs.Taken.{takes_line, line_rows}
-use Rattle.dc_words.specs.Reading.{Reading, for_analyse, for_check, for_sample, command_of, takes_words, row_name, IsAnalyse, IsCheck, IsSample, IsLine, IsReading, HaveSomeReading}
+use Rattle.dc_words.specs.Reading.{Reading, for_analyse, for_check, for_sample, Command, to_analyse, to_check, to_sample, name_of, clap_of, command_of, takes_words, row_name, IsAnalyse, IsCheck, IsSample, IsAsked, IsLine, IsReading, HaveSomeReading}
+use Rattle.dc_words.proofs.Unique.{named_command}
 use Rattle.dc_words.proofs.Held.{IsPlain}
 use Rattle.dc_words.proofs.Lines.{plain_level, HasRow, required_row, default_row, first_row, one_row, signed_number, unsigned_number}
 
@@ -58,10 +59,11 @@ analyse_read words h =
         first_row (analyse_rule 1) rows old,
         refl,
         record {
-          degree_is = d.1;
-          products_is = p.1;
+          degree_is = d.1.0;
+          products_is = p.1.0;
           pairs_is = first_row (analyse_rule 5) rows kind ∙ ap Some b.1;
-          pivots_is = v.1;
+          pivots_is = v.1.0;
+          limits = record { degree = d.1.2; some_products = p.1.1; few_products = p.1.2; some_pivots = v.1.1; few_pivots = v.1.2 };
         },
       ),
     )
@@ -120,39 +122,37 @@ sample_read words h =
     (for_sample s.0 n.0, (s.1, n.1))
 
 -- ---- words
+read_of : (command : Command) (words : List Text) → takes_line (clap_of command) words ≡ true → (read : Reading) × IsAsked command (line_rows (clap_of command) words) read
+read_of to_analyse = analyse_read
+read_of to_check = check_read
+read_of to_sample = sample_read
+
+-- a command that the first word names has that name
+name_found : (word : Text) (rest : List Text) (command : Command) → command_of (word ∷ rest) ≡ Some command → word ≡ name_of command
+name_found w ws command = go (bytes_eq w (name_of to_analyse)) (bytes_eq w (name_of to_check)) (bytes_eq w (name_of to_sample)) refl refl refl
+  where
+    named : (c : Command) → bytes_eq w (name_of c) ≡ true → ◌≡◌ {A = Option Command} (Some c) (Some command) → w ≡ name_of command
+    named c e h = (bytes_eq-Decides w (name_of c)).0 e ∙ ap name_of (let f : ◌≡◌ {A = Option Command} (Some c) (Some command) = h in cc)
+
+    go : (x y z : Bool) → bytes_eq w (name_of to_analyse) ≡ x → bytes_eq w (name_of to_check) ≡ y → bytes_eq w (name_of to_sample) ≡ z
+        → cond x (Some to_analyse) (cond y (Some to_check) (cond z (Some to_sample) None)) ≡ Some command → w ≡ name_of command
+    go true y z e f g h = named to_analyse e h
+    go false true z e f g h = named to_check f h
+    go false false true e f g h = named to_sample g h
+    go false false false e f g h = absurd (let q : ◌≡◌ {A = Option Command} None (Some command) = h in cc)
+
 pub has_reading : (words : List Text) → takes_words words ≡ true → (read : Reading) × IsReading words read
 has_reading [] h = absurd (true≢false (sym h))
-has_reading (w ∷ ws) h = go (bytes_eq w (codes "analyse")) (bytes_eq w (codes "check")) (bytes_eq w (codes "sample")) refl refl refl h
+has_reading (w ∷ ws) h = go (command_of (w ∷ ws)) refl h
   where
-    named : (name : Text) → bytes_eq w name ≡ true → ◌≡◌ {A = Option Text} (Some w) (Some name)
-    named name e = ap Some ((bytes_eq-Decides w name).0 e)
+    go : (o : Option Command) → command_of (w ∷ ws) ≡ o → option_map_or (λ c. takes_line (clap_of c) (w ∷ ws)) o false ≡ true → (read : Reading) × IsReading (w ∷ ws) read
+    go None e h = absurd (true≢false (sym h))
+    go (Some c) e h =
+        let r = read_of c (w ∷ ws) h in
+        (r.0, (c, record { named = ap Some (name_found w ws c e); taken = h; asked = r.1 }))
 
-    go : (x y z : Bool) → bytes_eq w (codes "analyse") ≡ x → bytes_eq w (codes "check") ≡ y → bytes_eq w (codes "sample") ≡ z
-        → option_map_or (λ (app : App). takes_line app (w ∷ ws)) (cond x (Some analyse) (cond y (Some check) (cond z (Some sample) None))) false ≡ true
-        → (read : Reading) × IsReading (w ∷ ws) read
-    go true y z e f g h =
-        let r = analyse_read (w ∷ ws) h in
-        (r.0, inl (record { named = named (codes "analyse") e; taken = h; asked = r.1 }))
-    go false true z e f g h =
-        let r = check_read (w ∷ ws) h in
-        (r.0, inr (inl (record { named = named (codes "check") f; taken = h; asked = r.1 })))
-    go false false true e f g h =
-        let r = sample_read (w ∷ ws) h in
-        (r.0, inr (inr (record { named = named (codes "sample") g; taken = h; asked = r.1 })))
-    go false false false e f g h = absurd (true≢false (sym h))
-
--- a command that is named and takes the words
-taken : (words : List Text) (name : Text) (app : App) → command_of (name ∷ []) ≡ Some app → slice_get words 0 ≡ Some name → takes_line app words ≡ true → takes_words words ≡ true
-taken [] name app c n t = absurd (let e : ◌≡◌ {A = Option Text} None (Some name) = n in cc)
-taken (w ∷ ws) name app c n t =
-    let e : w ≡ name = (let f : ◌≡◌ {A = Option Text} (Some w) (Some name) = n in cc) in
-    let d : command_of (w ∷ ws) ≡ Some app = subst (λ v. command_of (v ∷ ws) ≡ Some app) (sym e) c in
-    ap (λ o. option_map_or (λ (a : App). takes_line a (w ∷ ws)) o false) d ∙ t
-
-reading_taken : (words : List Text) (read : Reading) → IsReading words read → takes_words words ≡ true
-reading_taken words read (inl h) = taken words (codes "analyse") analyse refl h.named h.taken
-reading_taken words read (inr (inl h)) = taken words (codes "check") check refl h.named h.taken
-reading_taken words read (inr (inr h)) = taken words (codes "sample") sample refl h.named h.taken
+pub reading_taken : (words : List Text) (read : Reading) → IsReading words read → takes_words words ≡ true
+reading_taken words read (c, h) = ap (λ o. option_map_or (λ d. takes_line (clap_of d) words) o false) (named_command c words h.named) ∙ h.taken
 
 pub some_reading : (words : List Text) → HaveSomeReading words
 some_reading words = (has_reading words, λ r. reading_taken words r.0 r.1)

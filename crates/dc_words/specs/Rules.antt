@@ -10,6 +10,7 @@ use Rattle.clap.specs.declared.builder.action.ArgAction.{ArgAction}
 use Rattle.clap.specs.declared.builder.action.ArgAction.TheVariants.{Set}
 use Rattle.clap.specs.declared.builder.value_parser.ValueParser.{ValueParser}
 use Rattle.clap.specs.declared.builder.value_parser.ValueParser.TheVariants as vp
+use Rattle.dc_cert.specs.Settings.{most_degree, most_products, most_pivots}
 
 -- ---- arguments
 
@@ -62,10 +63,10 @@ sources_rules = required (codes "NEW") ∷ required (codes "OLD") ∷ option (co
 -- the options that say how a bound is sought
 abbrev pub settings_rules : Lent → List Rule
 settings_rules names =
-    with_default (codes "2") (read_by (vp.Signed (pos 0) (pos 3)) (option (codes "degree")))
-    ∷ with_default (codes "2") (read_by (vp.Signed (pos 1) (pos 3)) (option (codes "products")))
+    with_default (codes "2") (read_by (vp.Signed (pos 0) (pos most_degree)) (option (codes "degree")))
+    ∷ with_default (codes "2") (read_by (vp.Signed (pos 1) (pos most_products)) (option (codes "products")))
     ∷ rows_rule names
-    ∷ with_default (codes "100000") (read_by (vp.Unsigned 1 1000000) (option (codes "pivots"))) ∷ []
+    ∷ with_default (codes "100000") (read_by (vp.Unsigned 1 most_pivots) (option (codes "pivots"))) ∷ []
 
 abbrev pub analyse_with : Lent → App
 analyse_with names = command (codes "analyse") (sources_rules ++ settings_rules names)

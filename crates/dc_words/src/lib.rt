@@ -14,6 +14,7 @@ pub mod laws;
 mod matching;
 mod reading;
 
+use dc_cert::Settings;
 use reading::{read_analyse, read_check, read_sample};
 use std::alloc::{AllocError, Global};
 use thiserror::Error;
@@ -30,14 +31,9 @@ pub enum Words {
         old_name: String,
         /// The condition on the inputs, if there is one.
         when: Option<String>,
-        /// The degree of the templates, 0 to 3.
-        degree: u8,
-        /// How many factors a product has at most, 1 to 3.
-        products: u8,
-        /// Whether the candidates bound sums and differences of two variables too.
-        pairs: bool,
-        /// How many pivots a problem may take, 1 to 1,000,000.
-        pivots: u64,
+        /// How a bound is sought: the degree 0 to 3, 1 to 3 products, which rows, and 1 to
+        /// 1,000,000 pivots.
+        settings: Settings,
     },
     /// `check NEW OLD CERT [--when TEXT]`: check a certificate against two sources.
     Check {

@@ -13,6 +13,7 @@ use crate::matching::{
 };
 use crate::{Words, WordsFault, commands};
 use clap::ArgMatches;
+use dc_cert::Settings;
 use std::alloc::Global;
 
 /// `analyse NEW OLD` with its options.
@@ -24,15 +25,11 @@ pub fn read_analyse(alloc: Global, words: &[String]) -> Result<Words, WordsFault
         → takes_line analyse (map string_bytes words.now) ≡ false }
 {
     let matches = matches_of(commands::analyse(alloc)?, words)?;
-    let settings = settings_of(&matches);
     Ok(Words::Analyse {
         new_name: text(alloc, &matches, "NEW")?,
         old_name: text(alloc, &matches, "OLD")?,
         when: text_if_given(alloc, &matches, "when")?,
-        degree: settings.degree,
-        products: settings.products,
-        pairs: settings.pairs,
-        pivots: settings.pivots,
+        settings: settings_of(&matches),
     })
 }
 
@@ -69,19 +66,10 @@ pub fn read_sample(alloc: Global, words: &[String]) -> Result<Words, WordsFault>
 }
 
 /// How a bound is sought.
-#[derive(Drop)]
-struct Settings {
-    degree: u8,
-    products: u8,
-    pairs: bool,
-    pivots: u64,
-}
-
 fn settings_of(matches: &ArgMatches<'_>) -> Settings
     requires { (names : Lent) × IsRowNames names
         × IsFilled (found_of matches.now) (settings_rules names) }
-    ensures { IsSettings
-        (rows_of (found_of matches.now)) result.degree result.products result.pairs result.pivots }
+    ensures { IsSettings (rows_of (found_of matches.now)) result }
 {
     Settings {
         degree: number_u8(matches, "degree"),

@@ -3,7 +3,6 @@ use Rattle.dc_sparse.specs.Meanings.{cross_meaning}
 use Rattle.dc_words.specs.Reading.{for_analyse}
 use Rattle.dc_answers.specs.Ends.{ReadingEnds, files_of}
 use Rattle.dc_answers.specs.Outside.{visit_of}
-use Rattle.dc_cli.specs.Analysed.{search_of}
 use Rattle.dc_cli.specs.Steps.{IsRefusedOf}
 use Rattle.dc_cli.proofs.Results.{handed_on}
 use Rattle.dc_cli.proofs.Refused.{unfetched}
@@ -12,7 +11,7 @@ use Rattle.dc_cli.proofs.analyse.analyse.Goals as goal
 
 pub returns-in_err-texts-clause-refused : goal.returns-in_err-texts-clause-refused
 returns-in_err-texts-clause-refused g c =
-    let read = for_analyse c.args.new.now c.args.old.now (option_map (λ z. z.now) c.args.when) (search_of c.args.settings.now) in
+    let read = for_analyse c.args.new.now c.args.old.now (option_map (λ z. z.now) c.args.when) c.args.settings.now in
     let visit = visit_of g.S.Store.files g.S.Store.faults g.S.Store.call c.args.store.now c.fetch_sources.new.store in
     handed_on c.from_residual.result c.in_err-texts.field-0.0 (IsRefusedOf visit read) c.from_residual.ensures.1
     (unfetched visit (files_of read) (ReadingEnds read) c.in_err-texts.field-0.0 c.in_err-texts.ensures.refused)

@@ -25,13 +25,12 @@ returns-clause-ok c =
     let made = c.in_ok-analyse.ensures in
     let t : IsTaken (analyse_with made.0) words m = subst (λ (app : App). IsTaken app words m) made.2 c.in_ok-matches.ensures.ok in
     let rows = t.rows ∙ rows_same made.0 made.1 words in
-    let first = first_in (found_of m) _ rows in
-    let s = c.settings_of-settings.result in (
+    let first = first_in (found_of m) _ rows in (
       sym (takes_same made.0 made.1 words) ∙ t.taken,
       (
         first _ _ c.in_ok-text.ensures,
         first _ _ c.in_ok-text-2.ensures,
         first _ _ c.in_ok-text_if_given.ensures,
-        subst (λ (r : List Row). IsSettings r s.degree s.products s.pairs s.pivots) rows c.settings_of-settings.ensures,
+        subst (λ (r : List Row). IsSettings r c.settings_of.result) rows c.settings_of.ensures,
       ),
     )

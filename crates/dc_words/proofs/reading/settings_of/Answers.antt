@@ -24,8 +24,9 @@ returns c =
     let products = number_in f (codes "products") 1 3 c.number_u8-2.result (signed_held f _ 1 3 (held.1.0 refl) refl) c.number_u8-2.ensures in
     let pivots = number_in f (codes "pivots") 1 1000000 c.number_u64.result (unsigned_held f _ 1 1000000 (held.1.1.1.0 refl) refl) c.number_u64.ensures in
     record {
-      degree_is = (ap (option_map number_of) (sym (one_text-rows f (codes "degree"))) ∙ c.number_u8.ensures, degree.0, degree.1);
-      products_is = (ap (option_map number_of) (sym (one_text-rows f (codes "products"))) ∙ c.number_u8-2.ensures, products.0, products.1);
+      degree_is = ap (option_map number_of) (sym (one_text-rows f (codes "degree"))) ∙ c.number_u8.ensures;
+      products_is = ap (option_map number_of) (sym (one_text-rows f (codes "products"))) ∙ c.number_u8-2.ensures;
       pairs_is = sym (first_value-rows f (codes "rows")) ∙ rows_in f c.requires.0 c.is_value.result c.requires.1 (held.1.1.0 refl) c.is_value.ensures;
-      pivots_is = (ap (option_map number_of) (sym (one_text-rows f (codes "pivots"))) ∙ c.number_u64.ensures, pivots.0, pivots.1);
+      pivots_is = ap (option_map number_of) (sym (one_text-rows f (codes "pivots"))) ∙ c.number_u64.ensures;
+      limits = record { degree = degree.1; some_products = products.0; few_products = products.1; some_pivots = pivots.0; few_pivots = pivots.1 };
     }
