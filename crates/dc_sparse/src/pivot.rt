@@ -20,7 +20,7 @@ use dc_frac::Frac;
 impl Scaled {
     ghost use Rattle.dc_sparse.specs.Held.{nodes_of, node_count, height_of, width_of, held_at, KeepsHeld, KeepsOthers, KeepsEntries};
 
-    /// Makes the pivot at a place with an entry. Whether it fits; where it doesn't, the rows are left half done. It takes no memory.
+    /// Makes the pivot at a cell with an entry. Whether it fits; where it doesn't, the rows are left half done. It takes no memory.
     pub(crate) fn pivot(&mut self, row: usize, col: usize) -> bool
         requires row { row < height_of self.old.web }
         requires col { col < width_of self.old.web }

@@ -45,7 +45,7 @@ impl Scaled {
         }
     }
 
-    /// The entry at a place.
+    /// The entry at a cell.
     pub(crate) fn entry(&self, row: usize, col: usize) -> Frac
         requires row { row < height_of self.now.web }
         ensures { value result ≡ held_at self.now row col }

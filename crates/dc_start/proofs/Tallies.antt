@@ -38,7 +38,7 @@ tally-term f (suc n) a l = elim (cases_Bool (a == n)) [
   | inr e ↦ (let ne : a ≢ n = eqb-false a n e in omega (arith, tally-term f n a (omega arith)))
 ]
 
--- c at one place, and 0 elsewhere
+-- c at one index, and 0 elsewhere
 unfoldable hit : ℕ → ℕ → ℕ → ℕ
 hit row c a = cond (row == a) c 0
 
