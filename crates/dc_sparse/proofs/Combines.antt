@@ -79,7 +79,8 @@ module _ (old new : List Node) (i pivot col : ℕ) (times factor : ℚ) (was now
 abbrev AreSmall : List Node → ℕ → ℕ → ℕ → ℚ → ℚ → ℕ → Type 0
 AreSmall old i pivot col times factor n = (k : ℕ) → k < n → IsWhole 41 (combined_entry old i pivot col times factor k)
 
--- what the loop along row `pivot` keeps: the columns before `done` are combined, `source` is the next node, `left` stands before it in row i
+-- what the loop along row `pivot` keeps: the columns before `done` are combined, `source` is the
+-- next node, `left` stands before it in row i
 pub record IsBeside (old new : List Node) (i pivot col : ℕ) (times factor : ℚ) (was now done : ℕ) (small : Bool) (source left : Option ℕ) : Type 0 where
   pub row : IsCombining old new i pivot col times factor was now done
   pub next : IsFirst (by_rows new) pivot done source

@@ -9,7 +9,7 @@ use Rattle.dc_sparse.specs.Nodes.{link, row_at, col_at, right_at, head_at, is_li
 use Rattle.dc_sparse.specs.Webs.{IsFree, IsTop, IsFreeList, IsWoven}
 use Rattle.dc_sparse.specs.Entries.{KeepsAll}
 use Rattle.dc_sparse.proofs.Lines.{StandAs, linked_all, apart_less}
-use Rattle.dc_sparse.proofs.Writes.{IsAppended, appended, item_live, at_same, at_other}
+use Rattle.dc_sparse.proofs.SingleWrites.{IsAppended, appended, item_live, at_same, at_other}
 use Rattle.dc_sparse.proofs.FreeCounts.{free_count-more}
 use Rattle.dc_sparse.proofs.Entries.{entry_appended}
 

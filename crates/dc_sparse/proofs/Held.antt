@@ -14,7 +14,7 @@ use Rattle.dc_sparse.proofs.Wholes.{is_zero-zero}
 use Rattle.dc_sparse.proofs.Scaling.{den_of-positive}
 use Rattle.dc_sparse.specs.Held.{held_at, height_of, width_of, rows_of, columns_of}
 use Rattle.dc_sparse.specs.Laws.{row_head, column_head, IsHeld, HasLists}
-use Rattle.dc_sparse.proofs.Writes.{item_live}
+use Rattle.dc_sparse.proofs.SingleWrites.{item_live}
 use Rattle.dc_sparse.proofs.Chains.{line_list, free_list, fall_dead}
 use Rattle.dc_sparse.proofs.Entries.{entry-node, entry-vacant}
 

@@ -8,7 +8,7 @@ use Rattle.dc_sparse.specs.Lines.{Lines, IsFirst, IsLast, AreApart, link_after}
 use Rattle.dc_sparse.specs.Nodes.{link, row_at, col_at, item, right_at, down_at, head_at, is_live, by_rows, by_columns, IsIn, IsRelinkedRight, IsRelinkedDown, AreReheaded}
 use Rattle.dc_sparse.specs.Webs.{IsFree, IsTop, IsFreeList, AreWithin, IsWoven, IsVacant, IsInserted}
 use Rattle.dc_sparse.proofs.Lines.{StandAs, IsInserted, inserted, apart_more}
-use Rattle.dc_sparse.proofs.Writes.{IsWritten, at_same, at_other}
+use Rattle.dc_sparse.proofs.SingleWrites.{IsWritten, at_same, at_other}
 use Rattle.dc_sparse.proofs.FreeCounts.{free_count-less}
 
 -- what is linked behind a node that isn't `before`

@@ -1,5 +1,5 @@
 pub mod Lines
-pub mod Writes
+pub mod SingleWrites
 pub mod Links
 pub mod FreeCounts
 pub mod Inserts

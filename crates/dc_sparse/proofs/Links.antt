@@ -8,7 +8,7 @@ use Rattle.dc_sparse.specs.Nodes.{link, row_at, col_at, right_at, down_at, head_
 use Rattle.dc_sparse.specs.Webs.{IsVacant}
 use Rattle.dc_sparse.specs.Entries.{StandsAt}
 use Rattle.dc_sparse.proofs.Lines.{first_behind, first_ahead}
-use Rattle.dc_sparse.proofs.Writes.{part-read}
+use Rattle.dc_sparse.proofs.SingleWrites.{part-read}
 
 -- what is linked behind a stop is the first from there on
 pub next_first : (s : Lines) (lines : ℕ) (head : ℕ → Option ℕ) (i p : ℕ) → AreLinked s lines head → IsStop s i (Some p) → IsFirst s i (s.index p + 1) (s.next p)

@@ -9,7 +9,7 @@ use Rattle.dc_sparse.specs.Lines.{IsLast, AreApart, link_after}
 use Rattle.dc_sparse.specs.Nodes.{link, row_at, col_at, item, right_at, down_at, head_at, is_live, by_rows, by_columns, IsRelinkedRight, IsRelinkedDown, AreReheaded}
 use Rattle.dc_sparse.specs.Webs.{IsFree, IsTop, IsFreeList, AreWithin, IsWoven, IsCleared}
 use Rattle.dc_sparse.proofs.Lines.{StandAs, IsRemoved, removed, apart_less}
-use Rattle.dc_sparse.proofs.Writes.{IsWritten, at_same, at_other, item_live}
+use Rattle.dc_sparse.proofs.SingleWrites.{IsWritten, at_same, at_other, item_live}
 use Rattle.dc_sparse.proofs.FreeCounts.{free_count-less}
 use Rattle.dc_sparse.proofs.Inserts.{relinked_other, last_live}
 

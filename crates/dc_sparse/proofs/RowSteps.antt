@@ -129,7 +129,8 @@ gap_before xs i n o f k le lt = ap is_zero (entry-vacant xs i k (vacant o f lt))
     vacant None f lt c lc e q = f c (record { live = lc; line = e; index = omega arith })
     vacant (Some m) f lt c lc e q = (let w = f.1 c (record { live = lc; line = e; index = omega arith }) in let l = lt m refl in omega arith)
 
--- what the loop along row `pivot` keeps: the columns before `done` are reduced, `source` is the next node, `left` stands before it in row i
+-- what the loop along row `pivot` keeps: the columns before `done` are reduced, `source` is the
+-- next node, `left` stands before it in row i
 pub record IsAlong (old new : List Node) (i pivot col : ℕ) (factor : ℚ) (was now done : ℕ) (source left : Option ℕ) : Type 0 where
   pub row : IsReducing old new i pivot col factor was now done
   pub next : IsFirst (by_rows new) pivot done source

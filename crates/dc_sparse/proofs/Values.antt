@@ -8,7 +8,7 @@ use Rattle.dc_sparse.specs.Nodes.{row_at, item, right_at, head_at, is_live, by_r
 use Rattle.dc_sparse.specs.Webs.{IsFree, IsTop, IsWoven}
 use Rattle.dc_sparse.specs.Entries.{StandsAt, IsPut}
 use Rattle.dc_sparse.proofs.Lines.{SameLines, linked_same, apart_same}
-use Rattle.dc_sparse.proofs.Writes.{IsRevalued, at_same, at_other}
+use Rattle.dc_sparse.proofs.SingleWrites.{IsRevalued, at_same, at_other}
 use Rattle.dc_sparse.proofs.FreeCounts.{free_count-same}
 use Rattle.dc_sparse.proofs.Entries.{put_by, entry-node}
 

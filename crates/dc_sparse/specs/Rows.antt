@@ -40,7 +40,8 @@ pub record KeepsRows (old new : List Node) (i : ℕ) : Type 0 where
 
 -- ---- a row of whole numbers
 
--- row i's entries in columns n to m - 1 are multiplied; all other entries and the cells of all nodes stay
+-- row i's entries in columns n to m - 1 are multiplied; all other entries and the cells of all
+-- nodes stay
 pub record IsMultiplied (old new : List Node) (i n m : ℕ) (times : ℚ) : Type 0 where
   pub here : (k : ℕ) → n ≤ k → k < m → entry_at new i k ≡ entry_at old i k *ℚ times
   pub before : (k : ℕ) → k < n → entry_at new i k ≡ entry_at old i k

@@ -121,7 +121,8 @@ impl Web {
         requires vacant { IsVacant (nodes_of self.old) row col }
         requires left { IsLast (rows_of self.old) row col left }
         requires above { IsLast (columns_of self.old) col row above }
-        ensures inserted { IsInserted (nodes_of self.old) (nodes_of self.new) result row col (value entry) }
+        ensures inserted { IsInserted (nodes_of self.old) (nodes_of self.new)
+            result row col (value entry) }
         ensures spare { self.new.spare + 1 ≡ self.old.spare }
         ensures arena { node_count self.new ≡ node_count self.old }
         ensures height { height_of self.new ≡ height_of self.old }

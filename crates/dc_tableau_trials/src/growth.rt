@@ -40,13 +40,7 @@ fn coefficient(rt: &impl Abort, alloc: Global, v: i128) -> Result<(), Fail> {
     let [zero, one, less] = [Frac::whole(0), Frac::whole(1), Frac::whole(-1)];
     let cells = [(0, 0, 15), (0, 1, 15), (1, 2, 12), (0, 0, 11)];
     let x = [Frac::new(1, v), zero, Frac::new(1, 2)];
-    trial(
-        rt,
-        alloc,
-        &p,
-        &cells,
-        &End::Best(&x, &[one, less], zero, 4),
-    )
+    trial(rt, alloc, &p, &cells, &End::Best(&x, &[one, less], zero, 4))
 }
 
 #[test]

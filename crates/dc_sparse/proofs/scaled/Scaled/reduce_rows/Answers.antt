@@ -5,7 +5,7 @@ use Rattle.dc_sparse.specs.Rows.{steps_fit, stepped_at, gaps_in_row}
 use Rattle.dc_sparse.specs.Held.{held_at, KeepsHeld}
 use Rattle.dc_sparse.specs.Entries.{entry_at}
 use Rattle.dc_sparse.proofs.Entries.{entry-node}
-use Rattle.dc_sparse.proofs.Writes.{item_live, item-read}
+use Rattle.dc_sparse.proofs.SingleWrites.{item_live, item-read}
 use Rattle.dc_sparse.proofs.Links.{row-read, down-read}
 use Rattle.dc_sparse.proofs.HeldSteps.{AreDown, rows_start, down_room, down_fails, down_more, down_pivot, down_end}
 use Rattle.dc_sparse.proofs.HeldEntries.{held-zero}

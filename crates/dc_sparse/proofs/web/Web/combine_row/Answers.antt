@@ -9,7 +9,7 @@ use Rattle.dc_sparse.specs.Nodes.{by_rows, col_at, right_at, item, head_at}
 use Rattle.dc_sparse.specs.Entries.{entry_at, IsPut, takes}
 use Rattle.dc_sparse.specs.Rows.{reduced_entry, IsMultiplied}
 use Rattle.dc_sparse.specs.Scales.{IsWhole}
-use Rattle.dc_sparse.proofs.Writes.{item_live, item-read}
+use Rattle.dc_sparse.proofs.SingleWrites.{item_live, item-read}
 use Rattle.dc_sparse.proofs.Links.{col-read, right-read}
 use Rattle.dc_sparse.proofs.Scaling.{beyond}
 use Rattle.dc_sparse.proofs.Wholes.{whole_zero}

@@ -4,7 +4,7 @@ use mir.Syntax.{w128}
 use Rattle.dc_math.specs.Tests.{is_zero}
 use Rattle.dc_sparse.specs.Lines.{IsFirst}
 use Rattle.dc_sparse.specs.Nodes.{by_rows, col_at, right_at, head_at}
-use Rattle.dc_sparse.proofs.Writes.{item_live}
+use Rattle.dc_sparse.proofs.SingleWrites.{item_live}
 use Rattle.dc_sparse.proofs.Links.{col-read, right-read, next_first}
 use Rattle.dc_sparse.proofs.Wholes.{whole_nonzero, is_zero-/ℚ}
 use Rattle.dc_sparse.proofs.web.Web.common.Goals as goal

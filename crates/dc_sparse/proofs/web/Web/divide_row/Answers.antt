@@ -6,7 +6,7 @@ use Rattle.dc_frac.specs.Fits.{quotient_fits}
 use Rattle.dc_frac.specs.Value.{value}
 use Rattle.dc_sparse.specs.Nodes.{col_at, right_at, item, head_at}
 use Rattle.dc_sparse.specs.Entries.{StandsAt, IsPut}
-use Rattle.dc_sparse.proofs.Writes.{item_live, item-read}
+use Rattle.dc_sparse.proofs.SingleWrites.{item_live, item-read}
 use Rattle.dc_sparse.proofs.Links.{col-read, right-read}
 use Rattle.dc_sparse.proofs.Quotients.{IsAcross, dividing_start, quotient-nonzero, across_stands, across_nonzero, across_fails, across_step, across_end}
 use Rattle.dc_sparse.proofs.web.Web.divide_row.Goals as goal

@@ -5,7 +5,7 @@ use Rattle.dc_sparse.specs.Lines.{IsFirst}
 use Rattle.dc_sparse.specs.Nodes.{by_rows, col_at, right_at, head_at}
 use Rattle.dc_sparse.specs.Entries.{entry_at}
 use Rattle.dc_sparse.specs.Rows.{NoneNegative}
-use Rattle.dc_sparse.proofs.Writes.{item_live, item-read}
+use Rattle.dc_sparse.proofs.SingleWrites.{item_live, item-read}
 use Rattle.dc_sparse.proofs.Links.{col-read, right-read, next_first}
 use Rattle.dc_sparse.proofs.Entries.{entry-node}
 use Rattle.dc_sparse.proofs.RowSteps.{none_on, none_more}

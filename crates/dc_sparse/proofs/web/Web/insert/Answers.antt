@@ -3,7 +3,7 @@ use Rattle.dc_sparse.specs.declared.web.Node.{Node}
 use Rattle.dc_sparse.specs.Lines.{IsFirst}
 use Rattle.dc_sparse.specs.Nodes.{by_rows, by_columns, right_at}
 use Rattle.dc_sparse.specs.Webs.{IsWoven}
-use Rattle.dc_sparse.proofs.Writes.{item_live, written, IsWritten}
+use Rattle.dc_sparse.proofs.SingleWrites.{item_live, written, IsWritten}
 use Rattle.dc_sparse.proofs.Links.{right-read, last_first, last_stop}
 use Rattle.dc_sparse.proofs.Smalls.{first_link, same_node, small_kept}
 use Rattle.dc_sparse.proofs.Inserts.{last_in, inserted, woven_more}

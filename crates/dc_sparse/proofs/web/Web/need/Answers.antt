@@ -2,7 +2,7 @@ use Rattle.std.proofs.Common.{◌≡◌, ◌+◌, ◌∙◌, length, arith, Some
 use Rattle.dc_sparse.specs.Nodes.{row_at, down_at, head_at}
 use Rattle.dc_sparse.specs.Entries.{entry_at}
 use Rattle.dc_sparse.specs.Rows.{row_gaps, entries_in}
-use Rattle.dc_sparse.proofs.Writes.{item_live}
+use Rattle.dc_sparse.proofs.SingleWrites.{item_live}
 use Rattle.dc_sparse.proofs.Links.{row-read, down-read}
 use Rattle.dc_sparse.proofs.ColumnSteps.{AreCounted, counted_start, counted_pivot, counted_more, counted_end}
 use Rattle.dc_sparse.proofs.RowSteps.{row_gaps-less}

@@ -1,7 +1,7 @@
 use Rattle.std.proofs.Common.{◌∙◌, arith, Some}
 use Rattle.dc_sparse.specs.Lines.{IsFirst, index_after}
 use Rattle.dc_sparse.specs.Nodes.{by_rows}
-use Rattle.dc_sparse.proofs.Writes.{item_live}
+use Rattle.dc_sparse.proofs.SingleWrites.{item_live}
 use Rattle.dc_sparse.proofs.Links.{last_stop, col-read, first_is, first_isnt}
 use Rattle.dc_sparse.proofs.web.Web.node_at.Goals as goal
 

@@ -1,7 +1,7 @@
 use Rattle.std.proofs.Common.{◌∙◌, arith, Some}
 use Rattle.dc_sparse.specs.Lines.{IsFirst, index_after}
 use Rattle.dc_sparse.specs.Nodes.{by_columns}
-use Rattle.dc_sparse.proofs.Writes.{item_live}
+use Rattle.dc_sparse.proofs.SingleWrites.{item_live}
 use Rattle.dc_sparse.proofs.Links.{last_stop, row-read, below_is, below_isnt}
 use Rattle.dc_sparse.proofs.web.Web.node_below.Goals as goal
 

@@ -9,7 +9,7 @@ use Rattle.dc_start.proofs.Ratios.{best-start, candidates-within}
 use Rattle.dc_sparse.specs.Nodes.{row_at, down_at, item, head_at, by_columns}
 use Rattle.dc_sparse.specs.Lines.{IsFirst}
 use Rattle.dc_sparse.specs.Entries.{entry_at}
-use Rattle.dc_sparse.proofs.Writes.{item_live, item-read}
+use Rattle.dc_sparse.proofs.SingleWrites.{item_live, item-read}
 use Rattle.dc_sparse.proofs.Links.{row-read, down-read, next_first, stands_later, last_later}
 use Rattle.dc_sparse.proofs.RatioSteps.{stored, stored_ratios, seek_ends, seek_skip, seek_past, seek_candidate, seek_more}
 use Rattle.dc_sparse.proofs.web.Web.ratio_row.Goals as goal

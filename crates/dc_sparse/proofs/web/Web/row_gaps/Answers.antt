@@ -3,7 +3,7 @@ use Rattle.dc_math.specs.Tests.{is_zero}
 use Rattle.dc_sparse.specs.Lines.{IsLast, StandsBefore}
 use Rattle.dc_sparse.specs.Nodes.{by_rows, col_at, right_at, head_at}
 use Rattle.dc_sparse.specs.Entries.{entry_at}
-use Rattle.dc_sparse.proofs.Writes.{item_live}
+use Rattle.dc_sparse.proofs.SingleWrites.{item_live}
 use Rattle.dc_sparse.proofs.Links.{col-read, right-read}
 use Rattle.dc_sparse.proofs.RowSteps.{IsCounting, counting_start, counting_stop, counting_step, counting_end, row_gaps-most, unit_most}
 use Rattle.dc_sparse.proofs.web.Web.row_gaps.Goals as goal

@@ -2,7 +2,7 @@ use Rattle.std.proofs.Common.{◌≡◌, ◌∙◌, length, arith, Some, None, s
 use Rattle.dc_sparse.specs.Lines.{IsFirst}
 use Rattle.dc_sparse.specs.Nodes.{by_rows, col_at, right_at, head_at}
 use Rattle.dc_sparse.specs.Entries.{entry_at}
-use Rattle.dc_sparse.proofs.Writes.{item_live}
+use Rattle.dc_sparse.proofs.SingleWrites.{item_live}
 use Rattle.dc_sparse.proofs.Links.{col-read, right-read, next_first}
 use Rattle.dc_sparse.proofs.RowSteps.{entries_start, entries_step, entries_end, entries_in-most}
 use Rattle.dc_sparse.proofs.web.Web.row_length.Goals as goal

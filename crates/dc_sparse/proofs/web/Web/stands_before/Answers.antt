@@ -1,6 +1,6 @@
 use Rattle.std.proofs.Common.{◌∙◌, not, arith, sym, ap}
 use Rattle.dc_math.specs.Tests.{is_zero}
-use Rattle.dc_sparse.proofs.Writes.{item-read}
+use Rattle.dc_sparse.proofs.SingleWrites.{item-read}
 use Rattle.dc_sparse.proofs.Links.{row-read, col-read}
 use Rattle.dc_sparse.proofs.web.Web.stands_before.Goals as goal
 

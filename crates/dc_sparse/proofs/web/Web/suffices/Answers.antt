@@ -1,7 +1,7 @@
 use Rattle.std.proofs.Common.{◌≡◌, ◌≤◌, ◌+◌, ◌∙◌, length, arith, Some, None, refl, sym}
 use Rattle.dc_sparse.specs.Nodes.{row_at, down_at, head_at}
 use Rattle.dc_sparse.specs.Rows.{row_gaps, rows_gaps}
-use Rattle.dc_sparse.proofs.Writes.{item_live}
+use Rattle.dc_sparse.proofs.SingleWrites.{item_live}
 use Rattle.dc_sparse.proofs.Links.{row-read, down-read}
 use Rattle.dc_sparse.proofs.ColumnSteps.{AreCounted, counted_pivot, counted_more, counted_entry, counted_end, counted_so_far}
 use Rattle.dc_sparse.proofs.web.Web.suffices.Goals as goal

@@ -5,7 +5,7 @@ use Rattle.dc_frac.specs.Value.{value}
 use Rattle.dc_sparse.specs.Nodes.{is_live}
 use Rattle.dc_sparse.specs.Webs.{IsVacant}
 use Rattle.dc_sparse.specs.Entries.{entry_at, StandsAt, IsPut}
-use Rattle.dc_sparse.proofs.Writes.{item_live}
+use Rattle.dc_sparse.proofs.SingleWrites.{item_live}
 use Rattle.dc_sparse.proofs.Entries.{entry-vacant, put_inserted, put_cleared, put_same, takes_one, takes-zero, takes-entry, takes-both, vacant-zero, stands-nonzero}
 use Rattle.dc_sparse.proofs.web.Web.write.Goals as goal
 
