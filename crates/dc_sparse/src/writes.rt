@@ -6,7 +6,7 @@ ghost use Rattle.dc_math.specs.Tests.{is_zero};
 ghost use Rattle.dc_frac.specs.Value.{value};
 ghost use Rattle.dc_sparse.specs.Lines.{IsLast};
 ghost use Rattle.dc_sparse.specs.Nodes.{row_at, col_at, is_live, IsIn, IsLink, IsRelinkedRight, IsRelinkedDown, AreReheaded};
-ghost use Rattle.dc_sparse.specs.Webs.{IsVacant, IsInserted, IsCleared};
+ghost use Rattle.dc_sparse.specs.Webs.{IsVacant, IsSeated, IsCleared};
 ghost use Rattle.dc_sparse.specs.Entries.{entry_at, StandsAt, IsNodeAt, IsPut, takes};
 ghost use Rattle.dc_sparse.specs.Sizes.{HasGrown};
 ghost use Rattle.dc_sparse.specs.Held.{nodes_of, node_count, height_of, width_of, rows_of, columns_of};
@@ -121,7 +121,7 @@ impl Web {
         requires vacant { IsVacant (nodes_of self.old) row col }
         requires left { IsLast (rows_of self.old) row col left }
         requires above { IsLast (columns_of self.old) col row above }
-        ensures inserted { IsInserted (nodes_of self.old) (nodes_of self.new)
+        ensures seated { IsSeated (nodes_of self.old) (nodes_of self.new)
             result row col (value entry) }
         ensures spare { self.new.spare + 1 ≡ self.old.spare }
         ensures arena { node_count self.new ≡ node_count self.old }
