@@ -16,7 +16,7 @@ use Rattle.dc_lp.specs.Tables.{made}
 use Rattle.dc_dense.specs.Flat.{item, flat, divisions_fit, ChangesWithin, IsDivided, reductions_fit, IsReduced, row_fits, rows_fit, reduced_item, AreReduced, items_fit, pivoted_item}
 use Rattle.dc_start.specs.Changes.{step_fits}
 use Rattle.dc_start.proofs.Changes.{quotient-zero, step-zero}
-use Rattle.dc_dense.proofs.Places.{rows_apart}
+use Rattle.dc_dense.proofs.Indices.{rows_apart}
 use Rattle.dc_lp.proofs.Belows.{or_true, or_true_or, all_below-fails, all_below-same}
 
 -- ---- one number

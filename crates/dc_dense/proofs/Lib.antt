@@ -1,4 +1,4 @@
-pub mod Places
+pub mod Indices
 pub mod Flats
 pub mod Links
 pub mod Loads

@@ -62,16 +62,16 @@ module _ (real h w : ℕ) (basis : List ℕ) (xs : List Frac) (tall : h ≡ leng
         ∙ all_below-same w _ _ (λ k lk. ap₂ quotient_fits (table-at r k lr lk) (table-at r j lr lj))
 
     -- one column of another row
-    abbrev place_fits : ℚ → ℚ → ℚ → ℕ → Bool
-    place_fits factor x y k = k == j || step_fits factor x y
+    abbrev cell_fits : ℚ → ℚ → ℚ → ℕ → Bool
+    cell_fits factor x y k = k == j || step_fits factor x y
 
     step-flat : (i k : ℕ) → i < h → k < w → (k == j || tests.is_zero (divided table r j k) || product_fits (at table i j) (divided table r j k) && difference_fits (at table i k) (at table i j *ℚ divided table r j k))
-        ≡ place_fits (item xs (i * w + j)) (item xs (r * w + k) /ℚ item xs (r * w + j)) (item xs (i * w + k)) k
+        ≡ cell_fits (item xs (i * w + j)) (item xs (r * w + k) /ℚ item xs (r * w + j)) (item xs (i * w + k)) k
     step-flat i k li lk =
         sym (or_assoc (k == j) (tests.is_zero (divided table r j k)) (product_fits (at table i j) (divided table r j k) && difference_fits (at table i k) (at table i j *ℚ divided table r j k)))
-        ∙ ap (λ x. place_fits (at table i j) x (at table i k) k) (divided-at k lk)
-        ∙ ap (λ x. place_fits x (item xs (r * w + k) /ℚ item xs (r * w + j)) (at table i k) k) (table-at i j li lj)
-        ∙ ap (λ x. place_fits (item xs (i * w + j)) (item xs (r * w + k) /ℚ item xs (r * w + j)) x k) (table-at i k li lk)
+        ∙ ap (λ x. cell_fits (at table i j) x (at table i k) k) (divided-at k lk)
+        ∙ ap (λ x. cell_fits x (item xs (r * w + k) /ℚ item xs (r * w + j)) (at table i k) k) (table-at i j li lj)
+        ∙ ap (λ x. cell_fits (item xs (i * w + j)) (item xs (r * w + k) /ℚ item xs (r * w + j)) x k) (table-at i k li lk)
 
     row-flat : (i : ℕ) → i < h → (i == r || reduction_fits table r j i) ≡ (i == r || tests.is_zero (item xs (i * w + j)) || all_below w (λ k. k == j || step_fits (item xs (i * w + j)) (item xs (r * w + k) /ℚ item xs (r * w + j)) (item xs (i * w + k))))
     unfolding reduction_fits

@@ -20,7 +20,7 @@ use Rattle.dc_lp.specs.Meanings.{Meaning, resting, start}
 use Rattle.dc_dense.specs.Flat.{item, flat}
 use Rattle.dc_start.specs.Starts.{width, start_value}
 use Rattle.dc_dense.specs.Rows.{HasRows}
-use Rattle.dc_dense.proofs.Places.{place_below}
+use Rattle.dc_dense.proofs.Indices.{index_below}
 use Rattle.dc_dense.proofs.Links.{made-same}
 
 -- ---- one number more in the list
@@ -40,7 +40,7 @@ pub rows-start : (p : Problem) → HasRows p 0 0 []
 rows-start p = record { long = omega arith; rows = λ i l. absurd (omega arith); part = λ k l. absurd (omega arith) }
 
 before : (i k n w j : ℕ) → i < n → k < w → i * w + k < n * w + j
-before i k n w j l m = grind (arith, place_below i k n w l m)
+before i k n w j l m = grind (arith, index_below i k n w l m)
 
 pub rows-more : (p : Problem) (n j : ℕ) (xs ys : List Frac) (v : Frac) → HasRows p n j xs → ys ≡ xs ++ v ∷ [] → value v ≡ start_value p n j → HasRows p n (j + 1) ys
 rows-more p n j xs ys v h e f =

@@ -11,7 +11,7 @@ use Rattle.dc_lp.specs.Folds.{numbers}
 use Rattle.dc_lp.specs.Tables.{made}
 use Rattle.dc_lp.specs.Meanings.{all_below}
 
--- the number at place q, and 0 behind the end
+-- the number at index q, and 0 behind the end
 unfoldable pub item : List Frac → ℕ → ℚ
 item xs q = numbers xs q
 

@@ -1,5 +1,5 @@
 //! The tableau.
-#![tactic(auto, using(crate::proofs::Links::links, crate::proofs::Places::places))]
+#![tactic(auto, using(crate::proofs::Links::links, crate::proofs::Indices::indices))]
 
 ghost use Rattle.std.specs.Prelude.{◌≡◌, ◌+◌, ◌<◌, ◌≤◌, vec_len, length, true, false, Some, slice_index, MatchOption};
 ghost use Rattle.dc_dense.specs.Shape.{IsShaped};

@@ -1,5 +1,5 @@
 //! The pivot on a table in one slice, row after row.
-#![tactic(auto, using(crate::proofs::Flats::flats, crate::proofs::Places::places))]
+#![tactic(auto, using(crate::proofs::Flats::flats, crate::proofs::Indices::indices))]
 
 ghost use Rattle.std.specs.Prelude.{◌≡◌, ◌≢◌, ℕ, ◌+◌, ◌*◌, ◌<◌, ◌≤◌, ◌⊎◌, length, IsTrue, false};
 ghost use Rattle.dc_math.specs.Tests.{is_zero};
@@ -9,7 +9,7 @@ ghost use Rattle.dc_dense.specs.Flat.{item, ChangesWithin, IsDivided, divisions_
 use dc_frac::Frac;
 use dc_start::{quotient, step};
 
-/// Makes the pivot at a place with an entry. Whether it fits; where it doesn't, the items are left
+/// Makes the pivot at a cell with an entry. Whether it fits; where it doesn't, the items are left
 /// half done.
 pub fn pivot_items(items: &mut [Frac], height: usize, width: usize, row: usize, col: usize) -> bool
     requires shape { length items.old ≡ height * width }

@@ -4,7 +4,7 @@ use Rattle.std.specs.Option.{option_map}
 use Rattle.std.proofs.lemmas.Bool.{cases_Bool, cases_eq, both_ways, ltb-true, ltb-false, not-true, not-false, or_cases, or_parts, and_parts, and_cases, le-ltb}
 use Rattle.dc_math.specs.Field.{Field, minus, nonneg, is_below, is_negative, is_positive, is_zero}
 use Rattle.dc_math.specs.FieldOrder.{nonneg_zero, at_most_zero, above-nonzero, minus_chain, minus-flip}
-use Rattle.dc_lp.specs.Tables.{Table, at, entering, ratio_row, ratio_of, best_below, better, goes_before, drive_place, place_in, is_artificial, real_entry}
+use Rattle.dc_lp.specs.Tables.{Table, at, entering, ratio_row, ratio_of, best_below, better, goes_before, drive_cell, cell_in, is_artificial, real_entry}
 use Rattle.dc_lp.proofs.Firsts.{first_some-all, first_some-is, index-none, index-some}
 
 pair_of : (i k r j : ℕ) → ◌≡◌ {A = Option (ℕ × ℕ)} (Some (i, k)) (Some (r, j)) → (i ≡ r) × (k ≡ j)
@@ -207,10 +207,10 @@ module _ (Q : Type 0) (F : Field Q) where
       let h = index-some (λ k. not (is_zero Q F (at Q F t i k))) t.real j e in
       (h.0, zero-not (at Q F t i j) (not-true (is_zero Q F (at Q F t i j)) h.1))
 
-  pub drive-is : (t : Table Q) (r j : ℕ) → drive_place Q F t ≡ Some (r, j) → IsDrive t r j
-  unfolding drive_place
+  pub drive-is : (t : Table Q) (r j : ℕ) → drive_cell Q F t ≡ Some (r, j) → IsDrive t r j
+  unfolding drive_cell
   drive-is t r j e =
-      let k = first_some-is (place_in Q F t) (length t.basis) (r, j) e in
+      let k = first_some-is (cell_in Q F t) (length t.basis) (r, j) e in
       elim (cases_Bool (is_artificial Q F t k.0)) [
         | inl b ↦ (let h = entry-in t k.0 r j (real_entry Q F t k.0) refl (rw b at k.2) in
             let same : k.0 ≡ r = h.0 in
@@ -233,10 +233,10 @@ module _ (Q : Type 0) (F : Field Q) where
   unfolding real_entry
   real_entry-none t i e k l = zero-is (at Q F t i k) (not-false (is_zero Q F (at Q F t i k)) (index-none (λ x. not (is_zero Q F (at Q F t i x))) t.real e k l))
 
-  pub drive-none : (t : Table Q) → drive_place Q F t ≡ None → (i : ℕ) → i < length t.basis → t.real ≤ slice_index t.basis i → (k : ℕ) → k < t.real → at Q F t i k ≡ F.zero_q
-  unfolding drive_place
+  pub drive-none : (t : Table Q) → drive_cell Q F t ≡ None → (i : ℕ) → i < length t.basis → t.real ≤ slice_index t.basis i → (k : ℕ) → k < t.real → at Q F t i k ≡ F.zero_q
+  unfolding drive_cell
   drive-none t e i l a k lk =
-      let h : place_in Q F t i ≡ None = first_some-all (place_in Q F t) (length t.basis) e i l in
+      let h : cell_in Q F t i ≡ None = first_some-all (cell_in Q F t) (length t.basis) e i l in
       let b : is_artificial Q F t i ≡ true = ap not (le-ltb (slice_index t.basis i) t.real a) in
       real_entry-none t i (map-none i (real_entry Q F t i) (rw b at h)) k lk
 

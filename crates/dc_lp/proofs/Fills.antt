@@ -13,10 +13,10 @@ use Rattle.dc_math.specs.Order.{*ℚ_zero}
 use Rattle.dc_math.specs.Tests.{eq_ℚ-true, eq_ℚ_true, eq_ℚ_false, is_zero}
 use Rattle.dc_lp.specs.Tables as tables
 use Rattle.dc_lp.specs.Tables.{Table}
-use Rattle.dc_lp.specs.Meanings.{at, height, width, pivoted, divided, IsPivotPlace}
-use Rattle.dc_lp.specs.Fill.{is_filled, meets_gap, count_places, fill, gaps, entry_count}
+use Rattle.dc_lp.specs.Meanings.{at, height, width, pivoted, divided, IsPivotCell}
+use Rattle.dc_lp.specs.Fill.{is_filled, meets_gap, count_cells, fill, gaps, entry_count}
 use Rattle.dc_lp.specs.Laws.{Fills, EntriesGrow}
-use Rattle.dc_lp.proofs.Counts.{one_if, count_places-same, count_places-sum}
+use Rattle.dc_lp.proofs.Counts.{one_if, count_cells-same, count_cells-sum}
 
 zero-is : (x : ℚ) → is_zero x ≡ true → x ≡ of_ℤ (pos 0)
 zero-is x e = eq_ℚ_true x (of_ℤ (pos 0)) e
@@ -53,7 +53,7 @@ back q p i e f = linear₂ (neg_ℚ q) _ _ _ _ p _ _ e f (ring (q ∷ p ∷ i �
 took_none : (a d q p : ℚ) → a ≡ of_ℤ (pos 0) → d ≢ of_ℤ (pos 0) → p ≢ of_ℤ (pos 0) → a +ℚ neg_ℚ (d *ℚ (q *ℚ inverse p)) ≡ of_ℤ (pos 0) → q ≡ of_ℤ (pos 0)
 took_none a d q p e nd np f = back q p (inverse p) (*ℚ-inverse p np) (*ℚ_zero d (q *ℚ inverse p) (product-none a d q (inverse p) e f) nd)
 
-module _ (t : Table ℚ) (r j : ℕ) (h : IsPivotPlace t r j) where
+module _ (t : Table ℚ) (r j : ℕ) (h : IsPivotCell t r j) where
   nonzero : at t r j ≢ of_ℤ (pos 0)
   nonzero = zero-not _ h.nonzero
 
@@ -84,7 +84,7 @@ module _ (t : Table ℚ) (r j : ℕ) (h : IsPivotPlace t r j) where
 
   number : fill t r j ≡ gaps t r j
   unfolding fill gaps
-  number = count_places-same (is_filled t r j) (meets_gap t r j) (height t) (width t) each
+  number = count_cells-same (is_filled t r j) (meets_gap t r j) (height t) (width t) each
 
 pub fills : Fills
 fills t r j h = record { each = each t r j h; number = number t r j h }
@@ -107,6 +107,6 @@ pivoted-real t r j = refl
 pub entries_grow : EntriesGrow
 unfolding entry_count fill
 entries_grow t r j =
-    subst (λ n. n ≤ count_places (height t) (width t) (λ i k. not (is_zero (at t i k))) + count_places (height t) (width t) (is_filled t r j))
-    (ap₂ (λ h w. count_places h w (λ i k. not (is_zero (at (pivoted t r j) i k)))) (ap (λ n. n + 2) (sym (basis-long t r j))) (ap₂ (λ a n. a + n + 1) (sym (pivoted-real t r j)) (sym (basis-long t r j))))
-    (count_places-sum (λ i k. not (is_zero (at (pivoted t r j) i k))) (λ i k. not (is_zero (at t i k))) (is_filled t r j) (height t) (width t) (λ i k. one_more (is_zero (at t i k)) (is_zero (at (pivoted t r j) i k))))
+    subst (λ n. n ≤ count_cells (height t) (width t) (λ i k. not (is_zero (at t i k))) + count_cells (height t) (width t) (is_filled t r j))
+    (ap₂ (λ h w. count_cells h w (λ i k. not (is_zero (at (pivoted t r j) i k)))) (ap (λ n. n + 2) (sym (basis-long t r j))) (ap₂ (λ a n. a + n + 1) (sym (pivoted-real t r j)) (sym (basis-long t r j))))
+    (count_cells-sum (λ i k. not (is_zero (at (pivoted t r j) i k))) (λ i k. not (is_zero (at t i k))) (is_filled t r j) (height t) (width t) (λ i k. one_more (is_zero (at t i k)) (is_zero (at (pivoted t r j) i k))))

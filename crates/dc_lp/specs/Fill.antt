@@ -10,17 +10,17 @@ abbrev pub count_below : ℕ → (ℕ → Bool) → ℕ
 count_below zero test = 0
 count_below (suc n) test = count_below n test + cond (test n) 1 0
 
--- how many places of the first h rows and w columns pass
-abbrev pub count_places : ℕ → ℕ → (ℕ → ℕ → Bool) → ℕ
-count_places zero w test = 0
-count_places (suc h) w test = count_places h w test + count_below w (test h)
+-- how many cells of the first h rows and w columns pass
+abbrev pub count_cells : ℕ → ℕ → (ℕ → ℕ → Bool) → ℕ
+count_cells zero w test = 0
+count_cells (suc h) w test = count_cells h w test + count_below w (test h)
 
 -- the entry in row i and column k becomes one by the pivot at (r, j)
 abbrev pub is_filled : Table ℚ → ℕ → ℕ → ℕ → ℕ → Bool
 is_filled t r j i k = is_zero (at t i k) && not (is_zero (at (pivoted t r j) i k))
 
 unfoldable pub fill : Table ℚ → ℕ → ℕ → ℕ
-fill t r j = count_places (height t) (width t) (is_filled t r j)
+fill t r j = count_cells (height t) (width t) (is_filled t r j)
 
 -- row i has an entry in column j, and in column k the pivot's row has one where row i has none
 abbrev pub meets_gap : Table ℚ → ℕ → ℕ → ℕ → ℕ → Bool
@@ -28,7 +28,7 @@ meets_gap t r j i k = is_zero (at t i k) && not (is_zero (at t i j)) && not (is_
 
 -- the pairs of an entry of the pivot's column and one of its row at whose crossing there is none
 unfoldable pub gaps : Table ℚ → ℕ → ℕ → ℕ
-gaps t r j = count_places (height t) (width t) (meets_gap t r j)
+gaps t r j = count_cells (height t) (width t) (meets_gap t r j)
 
 -- a zero in the pivot's row stays zero; the entries that come are exactly those at the crossings
 pub record FillIsGaps (t : Table ℚ) (r j : ℕ) : Type 0 where
@@ -37,4 +37,4 @@ pub record FillIsGaps (t : Table ℚ) (r j : ℕ) : Type 0 where
 
 -- the number of entries of a table that aren't 0
 unfoldable pub entry_count : Table ℚ → ℕ
-entry_count t = count_places (height t) (width t) (λ i k. not (is_zero (at t i k)))
+entry_count t = count_cells (height t) (width t) (λ i k. not (is_zero (at t i k)))

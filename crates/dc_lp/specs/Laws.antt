@@ -4,7 +4,7 @@ use Rattle.dc_math.specs.Rational.{ℚ, of_ℤ}
 use Rattle.dc_lp.specs.Linear.{Linear, combined_right, cost_of, IsDual, IsRefutation, IsRay, CostAtLeast, HasNoSolution, HasNoBound}
 use Rattle.dc_lp.specs.Folds.{folded, folded_over, IsFitSum}
 use Rattle.dc_lp.specs.Tables.{Table}
-use Rattle.dc_lp.specs.Meanings.{IsPivotPlace, entering, ratio_row, pivoted}
+use Rattle.dc_lp.specs.Meanings.{IsPivotCell, entering, ratio_row, pivoted}
 use Rattle.dc_lp.specs.Choices.{Enters, NoneEnters, Leaves, NoneLeaves}
 use Rattle.dc_lp.specs.Fill.{FillIsGaps, fill, entry_count}
 
@@ -24,7 +24,7 @@ abbrev pub RayGoesOn : Type 0
 RayGoesOn = (p : Linear ℚ) (r : ℕ → ℚ) → IsRay p r → HasNoBound p
 
 abbrev pub Fills : Type 0
-Fills = (t : Table ℚ) (r j : ℕ) → IsPivotPlace t r j → FillIsGaps t r j
+Fills = (t : Table ℚ) (r j : ℕ) → IsPivotCell t r j → FillIsGaps t r j
 
 -- a pivot leaves at most as many entries as there were and were filled
 abbrev pub EntriesGrow : Type 0

@@ -33,8 +33,8 @@ entering t i = tables.entering ℚ rationals t i
 abbrev pub ratio_row : Table ℚ → ℕ → Option ℕ
 ratio_row t j = tables.ratio_row ℚ rationals t j
 
-abbrev pub drive_place : Table ℚ → Option (ℕ × ℕ)
-drive_place t = tables.drive_place ℚ rationals t
+abbrev pub drive_cell : Table ℚ → Option (ℕ × ℕ)
+drive_cell t = tables.drive_cell ℚ rationals t
 
 abbrev pub divided : Table ℚ → ℕ → ℕ → ℕ → ℚ
 divided t r j k = tables.divided ℚ rationals t r j k
@@ -73,7 +73,7 @@ unfoldable pub pivot_fits : Table ℚ → ℕ → ℕ → Bool
 pivot_fits t r j = division_fits t r j && all_below (height t) (λ i. i == r || reduction_fits t r j i)
 
 -- ---- a tableau
--- what it holds, whether it holds anything, whether a pivot left it half done, and the place for
+-- what it holds, whether it holds anything, whether a pivot left it half done, and the cell for
 -- which it has room
 pub record Meaning : Type 0 where
   pub loaded : Bool
@@ -93,13 +93,13 @@ resting t = record { loaded = true; broken = false; ready = None; table = t }
 abbrev pub ready_at : Table ℚ → ℕ → ℕ → Meaning
 ready_at t r j = record { loaded = true; broken = false; ready = Some (r, j); table = t }
 
--- an entry's place
-pub record IsPlace (t : Table ℚ) (i k : ℕ) : Type 0 where
+-- an entry's cell
+pub record IsCell (t : Table ℚ) (i k : ℕ) : Type 0 where
   pub row : i < height t
   pub column : k < width t
 
 -- where a pivot may be made: a nonzero entry of an equation
-pub record IsPivotPlace (t : Table ℚ) (r j : ℕ) : Type 0 where
+pub record IsPivotCell (t : Table ℚ) (r j : ℕ) : Type 0 where
   pub row : r < length t.basis
   pub column : j < width t
   pub nonzero : is_zero (at t r j) ≡ false

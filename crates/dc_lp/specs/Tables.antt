@@ -118,11 +118,11 @@ module _ (Q : Type 0) (F : Field Q) where
   is_artificial t i = not (nat_lt (slice_index t.basis i) t.real)
 
   -- a row whose basic column is artificial is driven out at its real entry, if it has one
-  abbrev pub place_in : Table Q → ℕ → Option (ℕ × ℕ)
-  place_in t i = if is_artificial t i then option_map (λ j. (i, j)) (real_entry t i) else None
+  abbrev pub cell_in : Table Q → ℕ → Option (ℕ × ℕ)
+  cell_in t i = if is_artificial t i then option_map (λ j. (i, j)) (real_entry t i) else None
 
-  unfoldable pub drive_place : Table Q → Option (ℕ × ℕ)
-  drive_place t = first_some (place_in t) (length t.basis)
+  unfoldable pub drive_cell : Table Q → Option (ℕ × ℕ)
+  drive_cell t = first_some (cell_in t) (length t.basis)
 
   -- A pivot divides row r by its entry in column j, and takes the other rows' entries there times
   -- the new row from them.

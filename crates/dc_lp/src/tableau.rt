@@ -3,7 +3,7 @@
 ghost use Rattle.std.specs.Prelude.{◌≡◌, ◌<◌, ◌≤◌, true, false, OnOk, OnErr, IsOk, slice_index, length, ◌↔◌};
 ghost use Rattle.dc_frac.specs.Value.{value};
 ghost use Rattle.dc_lp.specs.Problems.{IsWellFormed};
-ghost use Rattle.dc_lp.specs.Meanings.{Meaning, IsUsable, IsPlace, IsPivotPlace, resting, ready_at, start, at, height, width, entering, ratio_answer, pivoted, pivot_fits};
+ghost use Rattle.dc_lp.specs.Meanings.{Meaning, IsUsable, IsCell, IsPivotCell, resting, ready_at, start, at, height, width, entering, ratio_answer, pivoted, pivot_fits};
 
 use crate::Problem;
 use dc_frac::Frac;
@@ -39,7 +39,7 @@ pub trait Tableau {
     /// The entry in a row and a column.
     fn entry(&self, row: usize, col: usize) -> Frac
         requires usable { IsUsable (meaning self.now) }
-        requires place { IsPlace (meaning self.now).table row col }
+        requires cell { IsCell (meaning self.now).table row col }
         ensures { value result ≡ at (meaning self.now).table row col };
 
     /// The column that is basic in a row.
@@ -66,22 +66,22 @@ pub trait Tableau {
         requires column { col < width (meaning self.now).table }
         ensures { result ≡ ratio_answer (meaning self.now).table col };
 
-    /// Makes room for the pivot at a place. It changes nothing else, and nothing at all after a
+    /// Makes room for the pivot at a cell. It changes nothing else, and nothing at all after a
     /// refusal.
     fn room(&mut self, row: usize, col: usize) -> Result<(), AllocError>
         requires usable { IsUsable (meaning self.old) }
-        requires place { IsPivotPlace (meaning self.old).table row col }
+        requires cell { IsPivotCell (meaning self.old).table row col }
         ensures ok { OnOk result (meaning self.new ≡ ready_at (meaning self.old).table row col) }
         ensures err { OnErr result (meaning self.new ≡ meaning self.old) };
 
-    /// Makes the pivot at the place for which there is room. It takes no memory.
+    /// Makes the pivot at the cell for which there is room. It takes no memory.
     ///
     /// # Errors
     /// `PastPivot` exactly where a quotient, product or difference of the pivot doesn't fit. The
     /// tableau is broken then until it is loaded again.
     fn pivot(&mut self, row: usize, col: usize) -> Result<(), PastPivot>
         requires ready { meaning self.old ≡ ready_at (meaning self.old).table row col }
-        requires place { IsPivotPlace (meaning self.old).table row col }
+        requires cell { IsPivotCell (meaning self.old).table row col }
         ensures ok { OnOk result (meaning self.new
             ≡ resting (pivoted (meaning self.old).table row col)) }
         ensures err { OnErr result ((meaning self.new).broken ≡ true) }

@@ -2,20 +2,20 @@
 use Rattle.std.proofs.Common.{◌≡◌, ◌≢◌, ℕ, ◌+◌, ◌⊎◌, inl, inr, true, false, length, Option, Some, None, refl, sym, ◌∙◌, ap, subst}
 use Rattle.std.proofs.lemmas.Bool.{cases_Bool}
 use Rattle.dc_math.specs.Field.{Field, is_negative}
-use Rattle.dc_lp.specs.Tables.{Table, at, right, entering, ratio_row, drive_place}
+use Rattle.dc_lp.specs.Tables.{Table, at, right, entering, ratio_row, drive_cell}
 use Rattle.dc_pivots.specs.Runs.{Phase, One, Drive, Two, Ending, Infeasible, Optimal, Unbounded, Pivot, End, leave_two, enter_two, due_two, drive_out, due_drive, end_one, leave_one, enter_one, due_one, due}
 
 module _ (Q : Type 0) (F : Field Q) where
   -- Each kind of pivot that is due.
 
-  abbrev no_place : Option (ℕ × ℕ)
-  no_place = None
+  abbrev no_cell : Option (ℕ × ℕ)
+  no_cell = None
 
   pub data Move (t : Table Q) : Phase → Phase → ℕ → ℕ → Type 0 where
     stays_one : {r j : ℕ} → entering Q F t (length t.basis) ≡ Some j → ratio_row Q F t j ≡ Some r → Move t One One r j
-    ends_one : {r j : ℕ} → is_negative Q F (at Q F t (length t.basis) (right Q F t)) ≡ false → drive_place Q F t ≡ Some (r, j) → Move t One Drive r j
-    drives : {r j : ℕ} → drive_place Q F t ≡ Some (r, j) → Move t Drive Drive r j
-    begins_two : {q : Phase} {r j : ℕ} → ((q ≢ One) ⊎ (is_negative Q F (at Q F t (length t.basis) (right Q F t)) ≡ false)) → drive_place Q F t ≡ no_place → entering Q F t (length t.basis + 1) ≡ Some j → ratio_row Q F t j ≡ Some r → Move t q Two r j
+    ends_one : {r j : ℕ} → is_negative Q F (at Q F t (length t.basis) (right Q F t)) ≡ false → drive_cell Q F t ≡ Some (r, j) → Move t One Drive r j
+    drives : {r j : ℕ} → drive_cell Q F t ≡ Some (r, j) → Move t Drive Drive r j
+    begins_two : {q : Phase} {r j : ℕ} → ((q ≢ One) ⊎ (is_negative Q F (at Q F t (length t.basis) (right Q F t)) ≡ false)) → drive_cell Q F t ≡ no_cell → entering Q F t (length t.basis + 1) ≡ Some j → ratio_row Q F t j ≡ Some r → Move t q Two r j
     stays_two : {r j : ℕ} → entering Q F t (length t.basis + 1) ≡ Some j → ratio_row Q F t j ≡ Some r → Move t Two Two r j
 
   record Fields (p q : Phase) (a b r j : ℕ) : Type 0 where
@@ -46,16 +46,16 @@ module _ (Q : Type 0) (F : Field Q) where
 
   -- a pivot of drive-out, or the first of phase two
   abbrev IsLater : Table Q → Phase → ℕ → ℕ → Type 0
-  IsLater t q r j = ((q ≡ Drive) × (drive_place Q F t ≡ Some (r, j))) ⊎ ((drive_place Q F t ≡ no_place) × IsTwo t q r j)
+  IsLater t q r j = ((q ≡ Drive) × (drive_cell Q F t ≡ Some (r, j))) ⊎ ((drive_cell Q F t ≡ no_cell) × IsTwo t q r j)
 
-  drive_out-is : (t : Table Q) (q : Phase) (r j : ℕ) (o : Option (ℕ × ℕ)) → drive_place Q F t ≡ o → drive_out Q F t o ≡ Pivot q r j → IsLater t q r j
+  drive_out-is : (t : Table Q) (q : Phase) (r j : ℕ) (o : Option (ℕ × ℕ)) → drive_cell Q F t ≡ o → drive_out Q F t o ≡ Pivot q r j → IsLater t q r j
   drive_out-is t q r j None e h = inr (e, two-is t q r j h)
   drive_out-is t q r j (Some (a, b)) e h = (let g : Fields Drive q a b r j = fields Drive q a b r j h in
       inl (sym g.phases, e ∙ ap (λ x. Some (x, b)) g.rows ∙ ap (λ x. Some (r, x)) g.columns))
 
   drive-later : (t : Table Q) (q : Phase) (r j : ℕ) → due_drive Q F t ≡ Pivot q r j → IsLater t q r j
   unfolding due_drive
-  drive-later t q r j h = drive_out-is t q r j (drive_place Q F t) refl h
+  drive-later t q r j h = drive_out-is t q r j (drive_cell Q F t) refl h
 
   abbrev IsAfterOne : Table Q → Phase → ℕ → ℕ → Type 0
   IsAfterOne t q r j = (is_negative Q F (at Q F t (length t.basis) (right Q F t)) ≡ false) × IsLater t q r j
@@ -115,7 +115,7 @@ module _ (Q : Type 0) (F : Field Q) where
 
   pub data Stop (t : Table Q) : Phase → Ending → Type 0 where
     none_feasible : is_negative Q F (at Q F t (length t.basis) (right Q F t)) ≡ true → IsOneEnd t → Stop t One Infeasible
-    finishes : {q : Phase} {e : Ending} → ((q ≢ One) ⊎ (is_negative Q F (at Q F t (length t.basis) (right Q F t)) ≡ false)) → ((q ≡ Two) ⊎ (drive_place Q F t ≡ no_place)) → IsTwoEnd t e → Stop t q e
+    finishes : {q : Phase} {e : Ending} → ((q ≢ One) ⊎ (is_negative Q F (at Q F t (length t.basis) (right Q F t)) ≡ false)) → ((q ≡ Two) ⊎ (drive_cell Q F t ≡ no_cell)) → IsTwoEnd t e → Stop t q e
 
   same-end : (a b : Ending) → End a ≡ End b → a ≡ b
   same-end a b e = (cc)
@@ -132,13 +132,13 @@ module _ (Q : Type 0) (F : Field Q) where
   unfolding due_two
   two-end t e h = enter-end t e (entering Q F t (length t.basis + 1)) refl h
 
-  out-end : (t : Table Q) (e : Ending) (o : Option (ℕ × ℕ)) → drive_place Q F t ≡ o → drive_out Q F t o ≡ End e → (drive_place Q F t ≡ no_place) × IsTwoEnd t e
+  out-end : (t : Table Q) (e : Ending) (o : Option (ℕ × ℕ)) → drive_cell Q F t ≡ o → drive_out Q F t o ≡ End e → (drive_cell Q F t ≡ no_cell) × IsTwoEnd t e
   out-end t e None f h = (f, two-end t e h)
   out-end t e (Some (a, b)) f h = absurd (cc)
 
-  drive-end : (t : Table Q) (e : Ending) → due_drive Q F t ≡ End e → (drive_place Q F t ≡ no_place) × IsTwoEnd t e
+  drive-end : (t : Table Q) (e : Ending) → due_drive Q F t ≡ End e → (drive_cell Q F t ≡ no_cell) × IsTwoEnd t e
   unfolding due_drive
-  drive-end t e h = out-end t e (drive_place Q F t) refl h
+  drive-end t e h = out-end t e (drive_cell Q F t) refl h
 
   one-end : (t : Table Q) (e : Ending) → IsOneEnd t → end_one Q F t ≡ End e → Stop t One e
   unfolding end_one

@@ -7,7 +7,7 @@ use Rattle.std.proofs.lemmas.Grind.{get_or-set_at}
 use Rattle.dc_math.specs.Field.{Field, sum_to, minus, nonneg, is_negative, is_zero}
 use Rattle.dc_pivots.proofs.Rows.{Rows, pivot_at, basis_at}
 use Rattle.dc_lp.specs.Linear.{Linear}
-use Rattle.dc_lp.specs.Tables.{Table, at, right, ratio_of, entering, ratio_row, drive_place, start, start_entry, start_value, pivoted, pivoted_entry}
+use Rattle.dc_lp.specs.Tables.{Table, at, right, ratio_of, entering, ratio_row, drive_cell, start, start_entry, start_value, pivoted, pivoted_entry}
 use Rattle.dc_pivots.specs.Runs.{Phase, One, Drive, Two}
 use Rattle.dc_pivots.proofs.Segment.{ratio, IsStep}
 use Rattle.dc_pivots.proofs.Ties.{IsTied, IsPriced, pivot-row, pivot-other, basis-row, basis-other, IsTied-pivot, IsPriced-pivot}
@@ -115,17 +115,17 @@ module _ (Q : Type 0) (F : Field Q) where
 
     -- A pivot.
 
-    pub record IsPlace (g : Rows Q F m n) (r j : ℕ) : Type 0 where
+    pub record IsCell (g : Rows Q F m n) (r j : ℕ) : Type 0 where
       pub row : r < m
       pub column : j < n
       pub nonzero : g r j ≢ F.zero_q
 
-    module _ (t : Table Q) (g : Rows Q F m n) (c : ℕ → ℕ) (h : IsShadow t g c) (r j : ℕ) (at_place : IsPlace g r j) where
+    module _ (t : Table Q) (g : Rows Q F m n) (c : ℕ → ℕ) (h : IsShadow t g c) (r j : ℕ) (at_cell : IsCell g r j) where
       new-entry : (i k : ℕ) → i < m + 2 → k < n + m + 1 → pivoted_entry Q F t r j i k ≡ pivot_at Q F m n g r j i k
       unfolding pivot_at
       new-entry i k li lk =
-          let lr : r < m = at_place.row in
-          let lj : j < n = at_place.column in
+          let lr : r < m = at_cell.row in
+          let lj : j < n = at_cell.column in
           let rk : at Q F t r k ≡ g r k = h.entries r k (omega arith) lk in
           let rj : at Q F t r j ≡ g r j = h.entries r j (omega arith) (omega arith) in
           let ik : at Q F t i k ≡ g i k = h.entries i k li lk in
@@ -152,11 +152,11 @@ module _ (Q : Type 0) (F : Field Q) where
       new-basis : (i : ℕ) → i < m → slice_index (pivoted Q F t r j).basis i ≡ basis_at Q F m n c r j i
       unfolding pivoted
       new-basis i li =
-          let lr : r < m = at_place.row in
+          let lr : r < m = at_cell.row in
           let long : length t.basis ≡ m = h.long in
           elim (cases_eq i r) [
-            | inl same ↦ get_or-set_at t.basis r i j 0 same (omega arith) ∙ sym (ap (basis_at Q F m n c r j) same ∙ basis-row Q F m n s g c r j lr at_place.nonzero)
-            | inr ne ↦ get_or-set_other t.basis r i j 0 ne ∙ h.basis i li ∙ sym (basis-other Q F m n s g c r j lr at_place.nonzero i ne)
+            | inl same ↦ get_or-set_at t.basis r i j 0 same (omega arith) ∙ sym (ap (basis_at Q F m n c r j) same ∙ basis-row Q F m n s g c r j lr at_cell.nonzero)
+            | inr ne ↦ get_or-set_other t.basis r i j 0 ne ∙ h.basis i li ∙ sym (basis-other Q F m n s g c r j lr at_cell.nonzero i ne)
           ]
 
       pub shadow-pivot : IsShadow (pivoted Q F t r j) (pivot_at Q F m n g r j) (basis_at Q F m n c r j)
@@ -171,7 +171,7 @@ module _ (Q : Type 0) (F : Field Q) where
       -- what was chosen in the table was chosen in the rows
       pub ratio-same : (i : ℕ) → i < m → ratio_of Q F t j i ≡ ratio Q F m n g j i
       ratio-same i l =
-          let lj : j < n = at_place.column in
+          let lj : j < n = at_cell.column in
           let e : right Q F t ≡ n + m = ap (λ x. x + length t.basis) h.real ∙ ap (λ x. n + x) h.long in
           ap (λ x. F.mul (at Q F t i x) (F.inverse (at Q F t i j))) e
           ∙ ap (λ x. F.mul x (F.inverse (at Q F t i j))) (h.entries i (n + m) (omega arith) (omega arith))
@@ -183,9 +183,9 @@ module _ (Q : Type 0) (F : Field Q) where
       prices = λ k. ap (λ x. F.add x (sum_to Q F m (λ i. F.mul (d (c i)) (g i k)))) (sym (e k)) ∙ o.prices k;
     }
 
-    -- the place of a pivot that is due
-    chosen-place : (t : Table Q) (g : Rows Q F m n) (c : ℕ → ℕ) (r j a : ℕ) → IsShadow t g c → entering Q F t a ≡ Some j → ratio_row Q F t j ≡ Some r → IsPlace g r j
-    chosen-place t g c r j a h e f =
+    -- the cell of a pivot that is due
+    chosen-cell : (t : Table Q) (g : Rows Q F m n) (c : ℕ → ℕ) (r j a : ℕ) → IsShadow t g c → entering Q F t a ≡ Some j → ratio_row Q F t j ≡ Some r → IsCell g r j
+    chosen-cell t g c r j a h e f =
         let b : IsBest Q F t j (length t.basis) r = ratio_row-is Q F t j r f in
         let x = entering-is Q F t a j e in
         let low : r < length t.basis = b.below in
@@ -198,8 +198,8 @@ module _ (Q : Type 0) (F : Field Q) where
           nonzero = above-nonzero Q F (g r j) (ap (λ y. nonneg Q F (F.neg y)) (sym (h.entries r j (omega arith) (omega arith))) ∙ b.positive);
         }
 
-    driven-place : (t : Table Q) (g : Rows Q F m n) (c : ℕ → ℕ) (r j : ℕ) → IsShadow t g c → drive_place Q F t ≡ Some (r, j) → IsPlace g r j
-    driven-place t g c r j h e =
+    driven-cell : (t : Table Q) (g : Rows Q F m n) (c : ℕ → ℕ) (r j : ℕ) → IsShadow t g c → drive_cell Q F t ≡ Some (r, j) → IsCell g r j
+    driven-cell t g c r j h e =
         let d : IsDrive Q F t r j = drive-is Q F t r j e in
         let low : r < length t.basis = d.row in
         let long : length t.basis ≡ m = h.long in
@@ -207,19 +207,19 @@ module _ (Q : Type 0) (F : Field Q) where
         let lj : j < t.real = d.column in
         record { row = omega arith; column = omega arith; nonzero = λ z. d.nonzero (h.entries r j (omega arith) (omega arith) ∙ z) }
 
-    pub place : (phase q : Phase) (t : Table Q) (g : Rows Q F m n) (c : ℕ → ℕ) (r j : ℕ) → IsShadow t g c → Move Q F t phase q r j → IsPlace g r j
-    place phase q t g c r j h (stays_one e f) = chosen-place t g c r j (length t.basis) h e f
-    place phase q t g c r j h (ends_one e f) = driven-place t g c r j h f
-    place phase q t g c r j h (drives f) = driven-place t g c r j h f
-    place phase q t g c r j h (begins_two y d e f) = chosen-place t g c r j (length t.basis + 1) h e f
-    place phase q t g c r j h (stays_two e f) = chosen-place t g c r j (length t.basis + 1) h e f
+    pub cell : (phase q : Phase) (t : Table Q) (g : Rows Q F m n) (c : ℕ → ℕ) (r j : ℕ) → IsShadow t g c → Move Q F t phase q r j → IsCell g r j
+    cell phase q t g c r j h (stays_one e f) = chosen-cell t g c r j (length t.basis) h e f
+    cell phase q t g c r j h (ends_one e f) = driven-cell t g c r j h f
+    cell phase q t g c r j h (drives f) = driven-cell t g c r j h f
+    cell phase q t g c r j h (begins_two y d e f) = chosen-cell t g c r j (length t.basis + 1) h e f
+    cell phase q t g c r j h (stays_two e f) = chosen-cell t g c r j (length t.basis + 1) h e f
 
     -- the step of phase one or two, over the rows and their costs
     pub step-chosen : (t : Table Q) (g : Rows Q F m n) (c : ℕ → ℕ) (z : ℕ → Q) (r j a : ℕ) → IsShadow t g c → a < m + 2 → ((k : ℕ) → k < n → z k ≡ g a k) → entering Q F t a ≡ Some j → ratio_row Q F t j ≡ Some r → IsStep Q F m n g c z r j
     step-chosen t g c z r j a h la same e f =
         let b : IsBest Q F t j (length t.basis) r = ratio_row-is Q F t j r f in
         let x = entering-is Q F t a j e in
-        let l : IsPlace g r j = chosen-place t g c r j a h e f in
+        let l : IsCell g r j = chosen-cell t g c r j a h e f in
         let lr : r < m = l.row in
         let lj : j < n = l.column in
         let long : length t.basis ≡ m = h.long in
@@ -252,14 +252,14 @@ module _ (Q : Type 0) (F : Field Q) where
         ]
 
     -- where the row that is driven out has 0 on the right, the right side stays
-    right-driven : (g : Rows Q F m n) (c : ℕ → ℕ) (r j i : ℕ) → IsPlace g r j → g r R ≡ F.zero_q → pivot_at Q F m n g r j i R ≡ g i R
+    right-driven : (g : Rows Q F m n) (c : ℕ → ℕ) (r j i : ℕ) → IsCell g r j → g r R ≡ F.zero_q → pivot_at Q F m n g r j i R ≡ g i R
     right-driven g c r j i l z = elim (cases_eq i r) [
       | inl same ↦ ap (λ x. pivot_at Q F m n g r j x R) same ∙ pivot-row Q F m n s g c r j l.row l.nonzero R ∙ zero-times Q F (g r R) (F.inverse (g r j)) z ∙ sym z ∙ ap (λ x. g x R) (sym same)
       | inr ne ↦ pivot-other Q F m n s g c r j l.row l.nonzero i R ne ∙ minus_nothing Q F (g i R) (F.mul (g i j) (F.mul (g r R) (F.inverse (g r j)))) (times-zero Q F (g i j) (F.mul (g r R) (F.inverse (g r j))) (zero-times Q F (g r R) (F.inverse (g r j)) z))
     ]
 
     -- an artificial column that is basic after a pivot was it before, in another row
-    still-artificial : (g : Rows Q F m n) (c : ℕ → ℕ) (r j i : ℕ) → IsPlace g r j → n ≤ basis_at Q F m n c r j i → (i ≢ r) × (n ≤ c i)
+    still-artificial : (g : Rows Q F m n) (c : ℕ → ℕ) (r j i : ℕ) → IsCell g r j → n ≤ basis_at Q F m n c r j i → (i ≢ r) × (n ≤ c i)
     still-artificial g c r j i l up = elim (cases_eq i r) [
       | inl same ↦ (let e : basis_at Q F m n c r j i ≡ j = ap (basis_at Q F m n c r j) same ∙ basis-row Q F m n s g c r j l.row l.nonzero in let lj : j < n = l.column in absurd (omega arith))
       | inr ne ↦ (let e : basis_at Q F m n c r j i ≡ c i = basis-other Q F m n s g c r j l.row l.nonzero i ne in (ne, omega arith))
@@ -270,8 +270,8 @@ module _ (Q : Type 0) (F : Field Q) where
     dry-end phase t g c k e i li up =
         let d : ℕ → Q = first_costs Q F p in
         let f : ℕ → Q = λ x. F.mul (d (c x)) (g x R) in
-        let place_right : right Q F t ≡ R = ap (λ x. x + length t.basis) k.shadow.real ∙ ap (λ x. n + x) k.shadow.long in
-        let value : nonneg Q F (g m R) ≡ true = ap (nonneg Q F) (sym (ap (λ x. at Q F t x (right Q F t)) k.shadow.long ∙ ap (at Q F t m) place_right ∙ k.shadow.entries m R (omega arith) (omega arith))) ∙ not-false (nonneg Q F (at Q F t (length t.basis) (right Q F t))) e in
+        let right_is : right Q F t ≡ R = ap (λ x. x + length t.basis) k.shadow.real ∙ ap (λ x. n + x) k.shadow.long in
+        let value : nonneg Q F (g m R) ≡ true = ap (nonneg Q F) (sym (ap (λ x. at Q F t x (right Q F t)) k.shadow.long ∙ ap (at Q F t m) right_is ∙ k.shadow.entries m R (omega arith) (omega arith))) ∙ not-false (nonneg Q F (at Q F t (length t.basis) (right Q F t))) e in
         let total : Q = sum_to Q F m f in
         let sums : F.add (g m R) total ≡ F.zero_q = ap (λ x. F.add x total) (sym (ap (F.add (g m R)) (first_costs-right Q F p) ∙ F.add_zero (g m R))) ∙ (k.first.1.prices R ∙ first_costs-right Q F p) in
         let down : F.neg total ≡ g m R = sym (sym (F.add_zero (g m R)) ∙ ap (F.add (g m R)) (sym (F.add_neg total)) ∙ sym (F.add_assoc (g m R) total (F.neg total)) ∙ ap (λ x. F.add x (F.neg total)) sums ∙ zero_add Q F (F.neg total)) in
@@ -296,10 +296,10 @@ module _ (Q : Type 0) (F : Field Q) where
     dry-before phase q t g c r j k (begins_two y d e f) ne = dry-after phase t g c k y
     dry-before phase q t g c r j k (stays_two e f) ne = k.dry two-one
 
-    driven-artificial : (phase : Phase) (t : Table Q) (g : Rows Q F m n) (c : ℕ → ℕ) (r j : ℕ) → Kept phase t g c → drive_place Q F t ≡ Some (r, j) → n ≤ c r
+    driven-artificial : (phase : Phase) (t : Table Q) (g : Rows Q F m n) (c : ℕ → ℕ) (r j : ℕ) → Kept phase t g c → drive_cell Q F t ≡ Some (r, j) → n ≤ c r
     driven-artificial phase t g c r j k e =
         let d : IsDrive Q F t r j = drive-is Q F t r j e in
-        let l : IsPlace g r j = driven-place t g c r j k.shadow e in
+        let l : IsCell g r j = driven-cell t g c r j k.shadow e in
         let a : t.real ≤ slice_index t.basis r = d.artificial in
         let real : t.real ≡ n = k.shadow.real in
         let b : slice_index t.basis r ≡ c r = k.shadow.basis r l.row in
@@ -319,7 +319,7 @@ module _ (Q : Type 0) (F : Field Q) where
         sym (k.shadow.entries i x (omega arith) (omega arith)) ∙ drive-none Q F t d i (omega arith) (omega arith) x (omega arith)
     clear-before phase t g c r j k (stays_two e f) i li up x lx = k.clear refl i li up x lx
 
-    feasible-driven : (g : Rows Q F m n) (c : ℕ → ℕ) (r j : ℕ) → IsPlace g r j → g r R ≡ F.zero_q → ((i : ℕ) → i < m → nonneg Q F (g i R) ≡ true) → (i : ℕ) → i < m → nonneg Q F (pivot_at Q F m n g r j i R) ≡ true
+    feasible-driven : (g : Rows Q F m n) (c : ℕ → ℕ) (r j : ℕ) → IsCell g r j → g r R ≡ F.zero_q → ((i : ℕ) → i < m → nonneg Q F (g i R) ≡ true) → (i : ℕ) → i < m → nonneg Q F (pivot_at Q F m n g r j i R) ≡ true
     feasible-driven g c r j l z h i li = ap (nonneg Q F) (right-driven g c r j i l z) ∙ h i li
 
     -- the costs of phase one are those of the row in real columns
@@ -334,14 +334,14 @@ module _ (Q : Type 0) (F : Field Q) where
 
     feasible-pivot : (phase q : Phase) (t : Table Q) (g : Rows Q F m n) (c : ℕ → ℕ) (r j : ℕ) → Kept phase t g c → Move Q F t phase q r j → (i : ℕ) → i < m → nonneg Q F (pivot_at Q F m n g r j i R) ≡ true
     feasible-pivot phase q t g c r j k (stays_one e f) = feasible-chosen g c (λ x. F.add (g m x) (first_costs Q F p x)) r j (step-one t g c r j k.shadow e f) k.feasible
-    feasible-pivot phase q t g c r j k (ends_one e f) = feasible-driven g c r j (driven-place t g c r j k.shadow f) (dry-end phase t g c k e r ((driven-place t g c r j k.shadow f).row) (driven-artificial phase t g c r j k f)) k.feasible
-    feasible-pivot phase q t g c r j k (drives f) = feasible-driven g c r j (driven-place t g c r j k.shadow f) (k.dry drive-one r ((driven-place t g c r j k.shadow f).row) (driven-artificial phase t g c r j k f)) k.feasible
+    feasible-pivot phase q t g c r j k (ends_one e f) = feasible-driven g c r j (driven-cell t g c r j k.shadow f) (dry-end phase t g c k e r ((driven-cell t g c r j k.shadow f).row) (driven-artificial phase t g c r j k f)) k.feasible
+    feasible-pivot phase q t g c r j k (drives f) = feasible-driven g c r j (driven-cell t g c r j k.shadow f) (k.dry drive-one r ((driven-cell t g c r j k.shadow f).row) (driven-artificial phase t g c r j k f)) k.feasible
     feasible-pivot phase q t g c r j k (begins_two y d e f) = feasible-chosen g c (λ x. g (m + 1) x) r j (step-two t g c r j k.shadow e f) k.feasible
     feasible-pivot phase q t g c r j k (stays_two e f) = feasible-chosen g c (λ x. g (m + 1) x) r j (step-two t g c r j k.shadow e f) k.feasible
 
     dry-pivot : (phase q : Phase) (t : Table Q) (g : Rows Q F m n) (c : ℕ → ℕ) (r j : ℕ) → Kept phase t g c → Move Q F t phase q r j → q ≢ One → (i : ℕ) → i < m → n ≤ basis_at Q F m n c r j i → pivot_at Q F m n g r j i R ≡ F.zero_q
     dry-pivot phase q t g c r j k v ne i li up =
-        let l : IsPlace g r j = place phase q t g c r j k.shadow v in
+        let l : IsCell g r j = cell phase q t g c r j k.shadow v in
         let a = still-artificial g c r j i l up in
         elim (phase-cases q) [
           | inl one ↦ absurd (ne one)
@@ -355,14 +355,14 @@ module _ (Q : Type 0) (F : Field Q) where
 
     clear-pivot : (phase : Phase) (t : Table Q) (g : Rows Q F m n) (c : ℕ → ℕ) (r j : ℕ) → Kept phase t g c → Move Q F t phase Two r j → (i : ℕ) → i < m → n ≤ basis_at Q F m n c r j i → (x : ℕ) → x < n → pivot_at Q F m n g r j i x ≡ F.zero_q
     clear-pivot phase t g c r j k v i li up x lx =
-        let l : IsPlace g r j = place phase Two t g c r j k.shadow v in
+        let l : IsCell g r j = cell phase Two t g c r j k.shadow v in
         let a = still-artificial g c r j i l up in
         let none : g i j ≡ F.zero_q = clear-before phase t g c r j k v i li a.1 j l.column in
         pivot-other Q F m n s g c r j l.row l.nonzero i x a.0
         ∙ minus_nothing Q F (g i x) (F.mul (g i j) (F.mul (g r x) (F.inverse (g r j)))) (zero-times Q F (g i j) (F.mul (g r x) (F.inverse (g r j))) none)
         ∙ clear-before phase t g c r j k v i li a.1 x lx
 
-    range-pivot : (g : Rows Q F m n) (c : ℕ → ℕ) (r j i : ℕ) → IsPlace g r j → c i < n + m → basis_at Q F m n c r j i < n + m
+    range-pivot : (g : Rows Q F m n) (c : ℕ → ℕ) (r j i : ℕ) → IsCell g r j → c i < n + m → basis_at Q F m n c r j i < n + m
     range-pivot g c r j i l low = elim (cases_eq i r) [
       | inl same ↦ (let e : basis_at Q F m n c r j i ≡ j = ap (basis_at Q F m n c r j) same ∙ basis-row Q F m n s g c r j l.row l.nonzero in let lj : j < n = l.column in omega arith)
       | inr ne ↦ (let e : basis_at Q F m n c r j i ≡ c i = basis-other Q F m n s g c r j l.row l.nonzero i ne in omega arith)
@@ -370,7 +370,7 @@ module _ (Q : Type 0) (F : Field Q) where
 
     pub Kept-pivot : (phase q : Phase) (t : Table Q) (g : Rows Q F m n) (c : ℕ → ℕ) (r j : ℕ) → Kept phase t g c → Move Q F t phase q r j → Kept q (pivoted Q F t r j) (pivot_at Q F m n g r j) (basis_at Q F m n c r j)
     Kept-pivot phase q t g c r j k v =
-        let l : IsPlace g r j = place phase q t g c r j k.shadow v in
+        let l : IsCell g r j = cell phase q t g c r j k.shadow v in
         let lr : r < m = l.row in
         record {
           shadow = shadow-pivot t g c k.shadow r j l;

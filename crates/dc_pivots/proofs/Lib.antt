@@ -7,7 +7,7 @@ pub mod Choices
 pub mod Start
 pub mod Kept
 pub mod Whole
-pub mod Places
+pub mod Cells
 pub mod Opposites
 pub mod Certificates
 pub mod Outcomes

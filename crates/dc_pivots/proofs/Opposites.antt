@@ -4,7 +4,7 @@ use Rattle.std.proofs.lemmas.Bool.{ne_eqb, cases_Bool, cases_eq, both_ways, eqb-
 use Rattle.dc_math.specs.Field.{Field, sum_to, minus, nonneg, is_negative}
 use Rattle.dc_pivots.proofs.Rows.{Rows, pivot_at}
 use Rattle.dc_lp.specs.Linear.{Linear}
-use Rattle.dc_lp.specs.Tables.{Table, at, right, entering, ratio_row, drive_place, signed, start_entry, start_value, minus_sum}
+use Rattle.dc_lp.specs.Tables.{Table, at, right, entering, ratio_row, drive_cell, signed, start_entry, start_value, minus_sum}
 use Rattle.dc_pivots.specs.Runs.{Phase, One, Drive, Two, Infeasible, Unbounded, Due, Pivot, End, State, due, due_at, due_one, due_two, due_drive, end_one, enter_one, leave_one, enter_two, leave_two, drive_out, run, Basic}
 use Rattle.dc_pivots.proofs.Segment.{Has}
 use Rattle.dc_pivots.specs.Vectors.{basic_row, direction_at}
@@ -152,7 +152,7 @@ module _ (Q : Type 0) (F : Field Q) (p : Linear Q) where
         below-nonzero Q F (at Q F t (length t.basis + 1) v) ((entering-is Q F t (length t.basis + 1) v e).1)
         (ap (λ y. at Q F t (y + 1) v) k.shadow.long ∙ k.shadow.entries (m + 1) v (omega arith) (omega arith) ∙ free-last x phase t k a)
 
-    not-driven : (x : ℕ) (phase : Phase) (t : Table Q) (r : ℕ) → Kept Q F p phase t (G Q F p x) (C Q F p x) → Has (C Q F p x) m u → drive_place Q F t ≡ Some (r, v) → ⊥
+    not-driven : (x : ℕ) (phase : Phase) (t : Table Q) (r : ℕ) → Kept Q F p phase t (G Q F p x) (C Q F p x) → Has (C Q F p x) m u → drive_cell Q F t ≡ Some (r, v) → ⊥
     not-driven x phase t r k a e =
         let d : IsDrive Q F t r v = drive-is Q F t r v e in
         let long : length t.basis ≡ m = k.shadow.long in
@@ -221,7 +221,7 @@ module _ (Q : Type 0) (F : Field Q) (p : Linear Q) where
 
   ends-drive : (t : Table Q) (j : ℕ) → due_drive Q F t ≡ End (Unbounded j) → entering Q F t (length t.basis + 1) ≡ Some j
   unfolding due_drive
-  ends-drive t j e = out (drive_place Q F t) e
+  ends-drive t j e = out (drive_cell Q F t) e
     where
       out : (o : Option (ℕ × ℕ)) → drive_out Q F t o ≡ End (Unbounded j) → entering Q F t (length t.basis + 1) ≡ Some j
       out None h = ends-two t j h

@@ -4,7 +4,7 @@ use Rattle.std.proofs.lemmas.Bool.{ne_eqb, cases_Bool, cases_eq, cases_lt, eqb-t
 use Rattle.dc_math.specs.Field.{Field, sum_to, minus, nonneg, is_negative}
 use Rattle.dc_pivots.proofs.Rows.{Rows}
 use Rattle.dc_lp.specs.Linear.{Linear}
-use Rattle.dc_lp.specs.Tables.{Table, at, right, entering, ratio_row, drive_place, first_index, signed, start_entry, start_value}
+use Rattle.dc_lp.specs.Tables.{Table, at, right, entering, ratio_row, drive_cell, first_index, signed, start_entry, start_value}
 use Rattle.dc_pivots.specs.Runs.{Phase, Two, Ending}
 use Rattle.dc_pivots.proofs.Segment.{Has}
 use Rattle.dc_pivots.specs.Vectors.{basic_row, entry_or_zero, solution_at, direction_at, multiplier_at, value_of}
@@ -101,10 +101,10 @@ module _ (Q : Type 0) (F : Field Q) where
     ]
 
     module _ (phase : Phase) (t : Table Q) (g : Rows Q F m n) (c : ℕ → ℕ) (k : Kept Q F p phase t g c) where
-      -- a column of the table, at the columns' own places
-      placed : (a j : ℕ) → a < n + m + 1 → entry_or_zero Q F t a (basic_row t j) ≡ sum_to Q F m (λ i. cond (c i == j) (g i a) F.zero_q)
+      -- a column of the table, each number at the column that is basic in its row
+      by_column : (a j : ℕ) → a < n + m + 1 → entry_or_zero Q F t a (basic_row t j) ≡ sum_to Q F m (λ i. cond (c i == j) (g i a) F.zero_q)
       unfolding basic_row
-      placed a j la = by (first_index (λ i. slice_index t.basis i == j) (length t.basis)) refl
+      by_column a j la = by (first_index (λ i. slice_index t.basis i == j) (length t.basis)) refl
         where
           by : (o : Option ℕ) → first_index (λ i. slice_index t.basis i == j) (length t.basis) ≡ o → entry_or_zero Q F t a o ≡ sum_to Q F m (λ i. cond (c i == j) (g i a) F.zero_q)
           by None e = sym (sum-zero Q F m (λ i. cond (c i == j) (g i a) F.zero_q) (λ i l.
@@ -124,10 +124,10 @@ module _ (Q : Type 0) (F : Field Q) where
               ])
               ∙ sum-unit Q F m i (λ x. g x a) (λ x. cond (x == i) F.one F.zero_q) lm (λ x lx. refl))
 
-      -- sums over the columns of what is placed so
-      placed-sum : (a : ℕ) (f : ℕ → Q) → a < n + m + 1 → ((i : ℕ) → i < m → n ≤ c i → g i a ≡ F.zero_q) → sum_to Q F n (λ j. F.mul (f j) (entry_or_zero Q F t a (basic_row t j))) ≡ sum_to Q F m (λ i. F.mul (f (c i)) (g i a))
-      placed-sum a f la far = sum-same Q F n (λ j. F.mul (f j) (entry_or_zero Q F t a (basic_row t j))) (λ j. F.mul (f j) (sum_to Q F m (λ i. cond (c i == j) (g i a) F.zero_q)))
-          (λ j l. ap (F.mul (f j)) (placed a j la))
+      -- sums over the columns of these numbers
+      by_column-sum : (a : ℕ) (f : ℕ → Q) → a < n + m + 1 → ((i : ℕ) → i < m → n ≤ c i → g i a ≡ F.zero_q) → sum_to Q F n (λ j. F.mul (f j) (entry_or_zero Q F t a (basic_row t j))) ≡ sum_to Q F m (λ i. F.mul (f (c i)) (g i a))
+      by_column-sum a f la far = sum-same Q F n (λ j. F.mul (f j) (entry_or_zero Q F t a (basic_row t j))) (λ j. F.mul (f j) (sum_to Q F m (λ i. cond (c i == j) (g i a) F.zero_q)))
+          (λ j l. ap (F.mul (f j)) (by_column a j la))
           ∙ gathered m n c (λ i. g i a) f far
 
       row-low : (x i : ℕ) → basic_row t x ≡ Some i → i < m
@@ -140,10 +140,10 @@ module _ (Q : Type 0) (F : Field Q) where
       solution-is : (j : ℕ) → solution_at Q F t j ≡ entry_or_zero Q F t R (basic_row t j)
       solution-is j = ap (λ x. entry_or_zero Q F t x (basic_row t j)) right-is
 
-      -- what is placed is at least 0 where the column is
-      placed-nonneg : (a : ℕ) → ((i : ℕ) → i < m → nonneg Q F (at Q F t i a) ≡ true) → (j : ℕ) → nonneg Q F (entry_or_zero Q F t a (basic_row t j)) ≡ true
+      -- they are at least 0 where the column is
+      by_column-nonneg : (a : ℕ) → ((i : ℕ) → i < m → nonneg Q F (at Q F t i a) ≡ true) → (j : ℕ) → nonneg Q F (entry_or_zero Q F t a (basic_row t j)) ≡ true
       unfolding basic_row
-      placed-nonneg a h j = by (first_index (λ i. slice_index t.basis i == j) (length t.basis)) refl
+      by_column-nonneg a h j = by (first_index (λ i. slice_index t.basis i == j) (length t.basis)) refl
         where
           by : (o : Option ℕ) → first_index (λ i. slice_index t.basis i == j) (length t.basis) ≡ o → nonneg Q F (entry_or_zero Q F t a o) ≡ true
           by None e = nonneg_zero Q F
@@ -154,8 +154,8 @@ module _ (Q : Type 0) (F : Field Q) where
         equations = λ i l. unsigned i (left_side Q F p (solution_at Q F t) i) (p.right_side i) (
             sym (left-signed i (solution_at Q F t))
             ∙ sum-same Q F n (λ j. F.mul (s i j) (solution_at Q F t j)) (λ j. F.mul (s i j) (entry_or_zero Q F t R (basic_row t j))) (λ j lj. ap (F.mul (s i j)) (solution-is j))
-            ∙ placed-sum R (s i) (omega arith) dry ∙ sym (k.tied.restores i R l) ∙ entry-right Q F p i);
-        signs = λ j l. ap (nonneg Q F) (solution-is j) ∙ placed-nonneg R (λ i li. ap (nonneg Q F) (k.shadow.entries i R (omega arith) (omega arith)) ∙ k.feasible i li) j;
+            ∙ by_column-sum R (s i) (omega arith) dry ∙ sym (k.tied.restores i R l) ∙ entry-right Q F p i);
+        signs = λ j l. ap (nonneg Q F) (solution-is j) ∙ by_column-nonneg R (λ i li. ap (nonneg Q F) (k.shadow.entries i R (omega arith) (omega arith)) ∙ k.feasible i li) j;
       }
 
       -- the factors of a cost row are its artificial entries
@@ -224,7 +224,7 @@ module _ (Q : Type 0) (F : Field Q) where
       costs-sum : (a : ℕ) → a < n + m + 1 → ((i : ℕ) → i < m → n ≤ c i → g i a ≡ F.zero_q) → F.add (g (m + 1) a) (sum_to Q F n (λ j. F.mul (p.cost j) (entry_or_zero Q F t a (basic_row t j)))) ≡ last_costs Q F p a
       costs-sum a la far = ap (F.add (g (m + 1) a)) (
           sum-same Q F n (λ j. F.mul (p.cost j) (entry_or_zero Q F t a (basic_row t j))) (λ j. F.mul (last_costs Q F p j) (entry_or_zero Q F t a (basic_row t j))) (λ j l. ap (λ x. F.mul x (entry_or_zero Q F t a (basic_row t j))) (sym (last_costs-real j l)))
-          ∙ placed-sum a (last_costs Q F p) la far)
+          ∙ by_column-sum a (last_costs Q F p) la far)
           ∙ k.last.1.prices a
 
       best : ((i : ℕ) → i < m → n ≤ c i → g i R ≡ F.zero_q) → ((j : ℕ) → j < n → nonneg Q F (g (m + 1) j) ≡ true) → IsBest Q F p t
@@ -252,7 +252,7 @@ module _ (Q : Type 0) (F : Field Q) where
         step x = entry_or_zero Q F t j (basic_row t x)
 
         step-here : step j ≡ F.zero_q
-        step-here = placed j j (omega arith) ∙ sum-zero Q F m (λ i. cond (c i == j) (g i j) F.zero_q) (λ i l. rw (ne_eqb (c i) j (λ e. new (i, l, e))) refl)
+        step-here = by_column j j (omega arith) ∙ sum-zero Q F m (λ i. cond (c i == j) (g i j) F.zero_q) (λ i l. rw (ne_eqb (c i) j (λ e. new (i, l, e))) refl)
 
         direction-is : (x : ℕ) → direction_at Q F t j x ≡ F.add (cond (x == j) F.one F.zero_q) (F.neg (step x))
         direction-is x = elim (cases_eq x j) [
@@ -272,7 +272,7 @@ module _ (Q : Type 0) (F : Field Q) where
         falls-along down under = record {
           equations = λ i l. signed-zero i (left_side Q F p (direction_at Q F t j) i) (
               sym (left-signed i (direction_at Q F t j)) ∙ along (s i)
-              ∙ ap (minus Q F (s i j)) (placed-sum j (s i) (omega arith) clear ∙ sym (k.tied.restores i j l)) ∙ F.add_neg (s i j));
+              ∙ ap (minus Q F (s i j)) (by_column-sum j (s i) (omega arith) clear ∙ sym (k.tied.restores i j l)) ∙ F.add_neg (s i j));
           signs = λ x l. elim (cases_eq x j) [
             | inl e ↦ rw (eq-eqb x j e) (nonneg_one Q F)
             | inr ne ↦ rw (ne_eqb x j ne) (neg-nonneg x)
@@ -315,7 +315,7 @@ module _ (Q : Type 0) (F : Field Q) where
     ends-right phase t g c e k leaves (none_feasible neg (inr (j, f, r))) = absurd (leaves j f r)
     ends-right phase t g c e k leaves (finishes y z o) = ends-two phase t g c k e (dry-after Q F p phase t g c k y) (clear-end z) o
       where
-        clear-end : (phase ≡ Two) ⊎ (drive_place Q F t ≡ None) → (i : ℕ) → i < m → n ≤ c i → (x : ℕ) → x < n → g i x ≡ F.zero_q
+        clear-end : (phase ≡ Two) ⊎ (drive_cell Q F t ≡ None) → (i : ℕ) → i < m → n ≤ c i → (x : ℕ) → x < n → g i x ≡ F.zero_q
         clear-end (inl two) i li up x lx = k.clear two i li up x lx
         clear-end (inr d) i li up x lx =
             let long : length t.basis ≡ m = k.shadow.long in

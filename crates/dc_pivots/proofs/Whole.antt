@@ -13,7 +13,7 @@ use Rattle.dc_pivots.proofs.Ties.{pivot-other, basis-row, basis-other}
 use Rattle.dc_math.specs.FieldOrder.{below-nonzero, zero-times, times-zero, sum-zero}
 use Rattle.dc_pivots.proofs.Start.{first_costs, last_costs, first_costs-real, start_basis}
 use Rattle.dc_pivots.proofs.Choices.{Move, stays_one, ends_one, drives, begins_two, stays_two, move}
-use Rattle.dc_pivots.proofs.Kept.{phase-cases, IsShadow, Kept, Kept-start, Kept-pivot, IsPlace, place, step-one, step-two, drive-artificial, shift-costs}
+use Rattle.dc_pivots.proofs.Kept.{phase-cases, IsShadow, Kept, Kept-start, Kept-pivot, IsCell, cell, step-one, step-two, drive-artificial, shift-costs}
 use Rattle.dc_pivots.proofs.PhaseLaws.{no_cycle, costs-fixed, different}
 use Rattle.dc_pivots.proofs.Count.{count, rank, rank-below, rank-same, pigeonhole, member, member-has, has-member, count-member}
 
@@ -135,14 +135,14 @@ module _ (Q : Type 0) (F : Field Q) (p : Linear Q) where
     unfolding state_at due_now
     next-phase x l = (kept-step (state_at x) (G x) (C x) (due_at Q F (state_at x)) refl (pivots x l) (kept x (omega arith))).2
 
-    pub place-at : (x : ℕ) → x < N → IsPlace Q F p (G x) (R x) (J x)
-    place-at x l = place Q F p (state_at x).phase (K x) (state_at x).table (G x) (C x) (R x) (J x) ((kept x (omega arith)).shadow) (moves x l)
+    pub cell-at : (x : ℕ) → x < N → IsCell Q F p (G x) (R x) (J x)
+    cell-at x l = cell Q F p (state_at x).phase (K x) (state_at x).table (G x) (C x) (R x) (J x) ((kept x (omega arith)).shadow) (moves x l)
 
     basis-here : (x : ℕ) → x < N → C (suc x) (R x) ≡ J x
-    basis-here x l = ap (λ f. f (R x)) (C-next x) ∙ basis-row Q F m n s (G x) (C x) (R x) (J x) ((place-at x l).row) ((place-at x l).nonzero)
+    basis-here x l = ap (λ f. f (R x)) (C-next x) ∙ basis-row Q F m n s (G x) (C x) (R x) (J x) ((cell-at x l).row) ((cell-at x l).nonzero)
 
     basis-there : (x i : ℕ) → x < N → i ≢ R x → C (suc x) i ≡ C x i
-    basis-there x i l ne = ap (λ f. f i) (C-next x) ∙ basis-other Q F m n s (G x) (C x) (R x) (J x) ((place-at x l).row) ((place-at x l).nonzero) i ne
+    basis-there x i l ne = ap (λ f. f i) (C-next x) ∙ basis-other Q F m n s (G x) (C x) (R x) (J x) ((cell-at x l).row) ((cell-at x l).nonzero) i ne
 
     -- The phases come in order.
 
@@ -194,7 +194,7 @@ module _ (Q : Type 0) (F : Field Q) (p : Linear Q) where
     artificial-back (suc v) a k l le up h = elim (cases_eq a (suc v)) [
       | inl same ↦ subst (λ z. Has (C z) m k) (sym same) h
       | inr ne ↦ elim (cases_eq h.0 (R v)) [
-        | inl here ↦ (let e : C (suc v) h.0 ≡ k = h.2 in let f : C (suc v) h.0 ≡ J v = ap (C (suc v)) here ∙ basis-here v (omega arith) in let lj : J v < n = (place-at v (omega arith)).column in absurd (omega arith))
+        | inl here ↦ (let e : C (suc v) h.0 ≡ k = h.2 in let f : C (suc v) h.0 ≡ J v = ap (C (suc v)) here ∙ basis-here v (omega arith) in let lj : J v < n = (cell-at v (omega arith)).column in absurd (omega arith))
         | inr there ↦ artificial-back v a k (omega arith) (omega arith) up (h.0, h.1, sym (basis-there v h.0 (omega arith) there) ∙ h.2)
       ]
     ]
@@ -204,13 +204,13 @@ module _ (Q : Type 0) (F : Field Q) (p : Linear Q) where
       no_drive : (v : ℕ) → a ≤ v → v < b → K v ≡ Drive → ⊥
       no_drive v la lv e =
           let k : ℕ = C v (R v) in
-          let row : R v < m = (place-at v (omega arith)).row in
+          let row : R v < m = (cell-at v (omega arith)).row in
           let up : n ≤ k = drive-artificial Q F p (state_at v).phase (state_at v).table (G v) (C v) (R v) (J v) (kept v (omega arith)) (subst (λ q. Move Q F (state_at v).table (state_at v).phase q (R v) (J v)) e (moves v (omega arith))) in
           let first : Has (C a) m k = artificial-back v a k (omega arith) la up (R v, row, refl) in
           let later : Has (C (suc v)) m k = artificial-back b (suc v) k lb (omega arith) up (forth k first) in
           let low : later.0 < m = later.1 in
           elim (cases_eq later.0 (R v)) [
-            | inl here ↦ (let x : C (suc v) later.0 ≡ k = later.2 in let y : C (suc v) later.0 ≡ J v = ap (C (suc v)) here ∙ basis-here v (omega arith) in let lj : J v < n = (place-at v (omega arith)).column in absurd (omega arith))
+            | inl here ↦ (let x : C (suc v) later.0 ≡ k = later.2 in let y : C (suc v) later.0 ≡ J v = ap (C (suc v)) here ∙ basis-here v (omega arith) in let lj : J v < n = (cell-at v (omega arith)).column in absurd (omega arith))
             | inr there ↦ there (different Q F m n s (G v) (C v) later.0 (R v) low row ((kept v (omega arith)).tied) (sym (basis-there v later.0 (omega arith) there) ∙ later.2))
           ]
 
@@ -255,7 +255,7 @@ module _ (Q : Type 0) (F : Field Q) (p : Linear Q) where
       basis-next x i = (let e : a + suc x ≡ suc (a + x) = omega arith in ap (λ z. C z i) e ∙ ap (λ f. f i) (C-next (a + x)))
 
       row-next : (x i k : ℕ) → a + x < N → i ≢ R (a + x) → G (a + suc x) i k ≡ minus Q F (G (a + x) i k) (F.mul (G (a + x) i (J (a + x))) (F.mul (G (a + x) (R (a + x)) k) (F.inverse (G (a + x) (R (a + x)) (J (a + x))))))
-      row-next x i k l ne = table-next x i k ∙ pivot-other Q F m n s (G (a + x)) (C (a + x)) (R (a + x)) (J (a + x)) ((place-at (a + x) l).row) ((place-at (a + x) l).nonzero) i k ne
+      row-next x i k l ne = table-next x i k ∙ pivot-other Q F m n s (G (a + x)) (C (a + x)) (R (a + x)) (J (a + x)) ((cell-at (a + x) l).row) ((cell-at (a + x) l).nonzero) i k ne
 
       within_one : ((x : ℕ) → a ≤ x → x < b → K x ≡ One) → ⊥
       within_one one =
@@ -267,9 +267,9 @@ module _ (Q : Type 0) (F : Field Q) (p : Linear Q) where
             feasible = λ x i l li. (kept (a + x) (omega arith)).feasible i li;
             table = λ x i k l. table-next x i k;
             basis = λ x i l. basis-next x i;
-            costs = λ x l. (let y : a + x < N = (let z : a + x < b = inside x l in omega arith) in let row : R (a + x) < m = (place-at (a + x) y).row in let ne : m ≢ R (a + x) = omega arith in
+            costs = λ x l. (let y : a + x < N = (let z : a + x < b = inside x l in omega arith) in let row : R (a + x) < m = (cell-at (a + x) y).row in let ne : m ≢ R (a + x) = omega arith in
                 ap (λ w. F.add w (first_costs Q F p (n + m))) (row-next x m (n + m) y ne)
-                ∙ sym (shift-costs Q F (G (a + x) m (n + m)) (first_costs Q F p (n + m)) (G (a + x) m (J (a + x))) (first_costs Q F p (J (a + x))) (ratio Q F m n (G (a + x)) (J (a + x)) (R (a + x))) (first_costs-real Q F p (J (a + x)) (place-at (a + x) y).column)));
+                ∙ sym (shift-costs Q F (G (a + x) m (n + m)) (first_costs Q F p (n + m)) (G (a + x) m (J (a + x))) (first_costs Q F p (J (a + x))) (ratio Q F m n (G (a + x)) (J (a + x)) (R (a + x))) (first_costs-real Q F p (J (a + x)) (cell-at (a + x) y).column)));
           }) forth' back' some
 
       within_two : ((x : ℕ) → a ≤ x → x < b → K x ≡ Two) → ⊥
@@ -282,7 +282,7 @@ module _ (Q : Type 0) (F : Field Q) (p : Linear Q) where
             feasible = λ x i l li. (kept (a + x) (omega arith)).feasible i li;
             table = λ x i k l. table-next x i k;
             basis = λ x i l. basis-next x i;
-            costs = λ x l. (let y : a + x < N = (let z : a + x < b = inside x l in omega arith) in let row : R (a + x) < m = (place-at (a + x) y).row in let ne : m + 1 ≢ R (a + x) = omega arith in
+            costs = λ x l. (let y : a + x < N = (let z : a + x < b = inside x l in omega arith) in let row : R (a + x) < m = (cell-at (a + x) y).row in let ne : m + 1 ≢ R (a + x) = omega arith in
                 row-next x (m + 1) (n + m) y ne);
           }) forth' back' some
 

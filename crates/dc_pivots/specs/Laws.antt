@@ -3,7 +3,7 @@ use Rattle.std.specs.Prelude.{◌≡◌, ℕ, ◌<◌, Some}
 use Rattle.dc_math.specs.Rational.{ℚ}
 use Rattle.dc_math.specs.RationalField.{rationals}
 use Rattle.dc_lp.specs.Linear.{Linear}
-use Rattle.dc_lp.specs.Meanings.{IsPivotPlace}
+use Rattle.dc_lp.specs.Meanings.{IsPivotCell}
 use Rattle.dc_pivots.specs.Runs.{State, Phase, Pivot, Ending, End, due_at, run}
 use Rattle.dc_pivots.specs.FieldLaws as laws
 use Rattle.dc_pivots.specs.Outcomes.{Shows, Says, Outcome}
@@ -13,10 +13,10 @@ abbrev pub StaysFeasible : Type 0
 StaysFeasible = (p : Linear ℚ) → laws.StaysFeasible ℚ rationals p
 
 -- where a pivot is due, it is at a nonzero entry of an equation in a real column
-abbrev pub PivotsHavePlaces : Type 0
-PivotsHavePlaces = (p : Linear ℚ) (n : ℕ) (s : State ℚ) (q : Phase) (r j : ℕ)
+abbrev pub PivotsHaveCells : Type 0
+PivotsHaveCells = (p : Linear ℚ) (n : ℕ) (s : State ℚ) (q : Phase) (r j : ℕ)
     → run ℚ rationals p n ≡ Some s → due_at ℚ rationals s ≡ Pivot q r j
-    → IsPivotPlace s.table r j × (j < s.table.real)
+    → IsPivotCell s.table r j × (j < s.table.real)
 
 -- no set of basic columns comes twice in a run, whatever the phases
 abbrev pub NeverRepeats : Type 0

@@ -6,7 +6,7 @@ use Rattle.std.specs.Prelude.{◌≡◌, ℕ, zero, suc, ◌+◌, ◌<◌, cond,
 use Rattle.std.specs.Option.{option_and_then}
 use Rattle.dc_math.specs.Field.{Field, is_negative}
 use Rattle.dc_lp.specs.Linear.{Linear}
-use Rattle.dc_lp.specs.Tables.{Table, at, right, start, entering, ratio_row, drive_place, pivoted}
+use Rattle.dc_lp.specs.Tables.{Table, at, right, start, entering, ratio_row, drive_cell, pivoted}
 pub use Rattle.dc_pivots.specs.declared.Phase.{Phase}
 pub use Rattle.dc_pivots.specs.declared.Phase.TheVariants.{One, Drive, Two}
 pub use Rattle.dc_pivots.specs.declared.Ending.{Ending}
@@ -39,7 +39,7 @@ module _ (Q : Type 0) (F : Field Q) where
   unfoldable pub due_two : Table Q → Due
   due_two t = enter_two t (entering Q F t (length t.basis + 1))
 
-  -- drive-out, where there is a place for it, or none: then phase two
+  -- drive-out, where there is a cell for it, or none: then phase two
   abbrev pub drive_out : Table Q → Option (ℕ × ℕ) → Due
   drive_out t None = due_two t
   drive_out t (Some (r, j)) = Pivot Drive r j
@@ -47,7 +47,7 @@ module _ (Q : Type 0) (F : Field Q) where
   -- drive-out: the first row with an artificial basic column and a nonzero real entry, at the least
   -- such column
   unfoldable pub due_drive : Table Q → Due
-  due_drive t = drive_out t (drive_place Q F t)
+  due_drive t = drive_out t (drive_cell Q F t)
 
   -- the end of phase one: infeasible where the right side of its cost row is negative, and else
   -- drive-out

@@ -1,14 +1,14 @@
 //! Laws of the pivot run, for each linear problem over the rational numbers (Bland, New Finite
 //! Pivoting Rules for the Simplex Method, 1977).
 
-ghost use Rattle.dc_pivots.specs.Laws.{StaysFeasible, PivotsHavePlaces, NeverRepeats, Ends, EndsSoon, NeverSpent, PhaseOneLeaves, StayOpposite, EndsRight, EndsTrue, HasOutcome};
+ghost use Rattle.dc_pivots.specs.Laws.{StaysFeasible, PivotsHaveCells, NeverRepeats, Ends, EndsSoon, NeverSpent, PhaseOneLeaves, StayOpposite, EndsRight, EndsTrue, HasOutcome};
 
 /// Each table of a run has a basic column for each equation and no negative right side, so its
 /// basic solution is at least 0; and where a pivot is due, it is at a nonzero entry of an equation
 /// in a real column.
 pub fn tables_stay_feasible()
     ensures feasible { StaysFeasible }
-    ensures places { PivotsHavePlaces }
+    ensures cells { PivotsHaveCells }
 {}
 
 /// No set of basic columns comes twice in a run, whatever the phases: the pivot rule never goes

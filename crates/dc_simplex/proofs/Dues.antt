@@ -9,7 +9,7 @@ use Rattle.dc_lp.specs.declared.tableau.PastQuotient.{PastQuotient}
 use Rattle.dc_lp.specs.Folds.{checked}
 use Rattle.dc_lp.specs.Tables as tables
 use Rattle.dc_lp.specs.Tables.{Table, first_some, first_index}
-use Rattle.dc_lp.specs.Meanings.{at, right, entering, ratio_row, ratio_answer, ratios_fit, ratios_fit_below, drive_place, all_below}
+use Rattle.dc_lp.specs.Meanings.{at, right, entering, ratio_row, ratio_answer, ratios_fit, ratios_fit_below, drive_cell, all_below}
 use Rattle.dc_pivots.specs.Runs as runs
 use Rattle.dc_pivots.specs.declared.Phase.TheVariants.{One, Drive, Two}
 use Rattle.dc_pivots.specs.declared.Ending.TheVariants.{Infeasible, Optimal, Unbounded}
@@ -25,8 +25,8 @@ real_entry t i = tables.real_entry ℚ rationals t i
 abbrev pub is_artificial : Table ℚ → ℕ → Bool
 is_artificial t i = tables.is_artificial ℚ rationals t i
 
-abbrev pub place_in : Table ℚ → ℕ → Option (ℕ × ℕ)
-place_in t i = tables.place_in ℚ rationals t i
+abbrev pub cell_in : Table ℚ → ℕ → Option (ℕ × ℕ)
+cell_in t i = tables.cell_in ℚ rationals t i
 
 abbrev answered : Option ℕ → Result (Option ℕ) PastQuotient
 answered o = Ok o
@@ -101,30 +101,30 @@ two_past t j x e a =
 
 -- Drive-out.
 
-pub drive_none : (t : Table ℚ) → drive_place t ≡ None → told t (due_drive t) ≡ told t (due_two t)
+pub drive_none : (t : Table ℚ) → drive_cell t ≡ None → told t (due_drive t) ≡ told t (due_two t)
 unfolding runs.due_drive
 drive_none t e = rw e refl
 
-pub drive_pivot : (t : Table ℚ) (r j : ℕ) → drive_place t ≡ Some (r, j) → told t (due_drive t) ≡ Ok (Pivot Drive r j)
+pub drive_pivot : (t : Table ℚ) (r j : ℕ) → drive_cell t ≡ Some (r, j) → told t (due_drive t) ≡ Ok (Pivot Drive r j)
 unfolding runs.due_drive
 drive_pivot t r j e = rw e refl
 
-place-here : (t : Table ℚ) (i j : ℕ) → is_artificial t i ≡ true → real_entry t i ≡ Some j → place_in t i ≡ Some (i, j)
-place-here t i j a e = rw (a, e) refl
+cell-here : (t : Table ℚ) (i j : ℕ) → is_artificial t i ≡ true → real_entry t i ≡ Some j → cell_in t i ≡ Some (i, j)
+cell-here t i j a e = rw (a, e) refl
 
-pub place-none : (t : Table ℚ) (i : ℕ) → (is_artificial t i ≡ true → real_entry t i ≡ None) → place_in t i ≡ None
-place-none t i h =
+pub cell-none : (t : Table ℚ) (i : ℕ) → (is_artificial t i ≡ true → real_entry t i ≡ None) → cell_in t i ≡ None
+cell-none t i h =
     elim (cases_Bool (is_artificial t i)) [
       | inl b ↦ rw (b, h b) refl
       | inr b ↦ rw b refl
     ]
 
-pub drive-found : (t : Table ℚ) (i j : ℕ) → first_some (place_in t) i ≡ None → i < length t.basis → is_artificial t i ≡ true → real_entry t i ≡ Some j → drive_place t ≡ Some (i, j)
-unfolding tables.drive_place
-drive-found t i j e lt a h = first_some-found (place_in t) i (length t.basis) (i, j) e (place-here t i j a h) lt
+pub drive-found : (t : Table ℚ) (i j : ℕ) → first_some (cell_in t) i ≡ None → i < length t.basis → is_artificial t i ≡ true → real_entry t i ≡ Some j → drive_cell t ≡ Some (i, j)
+unfolding tables.drive_cell
+drive-found t i j e lt a h = first_some-found (cell_in t) i (length t.basis) (i, j) e (cell-here t i j a h) lt
 
-pub drive-none : (t : Table ℚ) (n : ℕ) → first_some (place_in t) n ≡ None → n ≡ length t.basis → drive_place t ≡ None
-unfolding tables.drive_place
+pub drive-none : (t : Table ℚ) (n : ℕ) → first_some (cell_in t) n ≡ None → n ≡ length t.basis → drive_cell t ≡ None
+unfolding tables.drive_cell
 drive-none t n e same = rw (← same) e
 
 -- the first real entry of row i below column n
@@ -176,4 +176,4 @@ pub end_drives : (t : Table ℚ) → tests.is_negative (at t (length t.basis) (r
 unfolding runs.end_one
 end_drives t e = rw e refl
 
-pub ruleset dues = (two_none, two_unbounded, two_pivot, two_past, drive_none, drive_pivot, one_none, one_stays, one_pivot, one_past, end_infeasible, end_drives, entering-real, drive-found, real_entry-found, entry_below-start, entry_below-more, place-none, real_entry-none, drive-none)
+pub ruleset dues = (two_none, two_unbounded, two_pivot, two_past, drive_none, drive_pivot, one_none, one_stays, one_pivot, one_past, end_infeasible, end_drives, entering-real, drive-found, real_entry-found, entry_below-start, entry_below-more, cell-none, real_entry-none, drive-none)

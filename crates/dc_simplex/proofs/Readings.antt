@@ -14,7 +14,7 @@ use Rattle.dc_lp.specs.declared.Problem.{Problem}
 use Rattle.dc_lp.specs.Folds.{checked, numbers}
 use Rattle.dc_lp.specs.Problems.{IsWellFormed, linear_of, whole_at}
 use Rattle.dc_lp.specs.Tables.{Table, first_index}
-use Rattle.dc_lp.specs.Meanings.{at, right, IsPlace}
+use Rattle.dc_lp.specs.Meanings.{at, right, IsCell}
 use Rattle.dc_pivots.specs.Vectors.{basic_row, entry_or_zero}
 use Rattle.dc_simplex.specs.Outcomes.{IsVector, solution_at, direction_at, multiplier_at}
 use Rattle.dc_lp.proofs.Firsts.{index-some, first_some-none, first_some-found}
@@ -41,9 +41,9 @@ pub basic_row-none : (t : Table ℚ) (j n : ℕ) → basic_below t j n ≡ None 
 unfolding basic_below basic_row
 basic_row-none t j n e same = rw (← same) e
 
-pub basic_row-place : (t : Table ℚ) (j i k : ℕ) → basic_row t j ≡ Some i → k ≤ right t → IsPlace t i k
+pub basic_row-cell : (t : Table ℚ) (j i k : ℕ) → basic_row t j ≡ Some i → k ≤ right t → IsCell t i k
 unfolding basic_row
-basic_row-place t j i k e le = (let h = index-some (λ x. slice_index t.basis x == j) (length t.basis) i e in let lt : i < length t.basis = h.0 in record { row = omega arith; column = omega arith })
+basic_row-cell t j i k e le = (let h = index-some (λ x. slice_index t.basis x == j) (length t.basis) i e in let lt : i < length t.basis = h.0 in record { row = omega arith; column = omega arith })
 
 -- ---- one number more
 
@@ -98,4 +98,4 @@ solution-read t k w v same e = rw same at e
 pub is_small : (p : Problem) → IsWellFormed p → p.rows + length p.columns.items + 1 < 2 ^ 64
 is_small p h = (let b = p.b in let a = p.columns in let e : length b.items ≡ p.rows = h.right_sides in omega (arith, b.small, a.small, b.ok.0, b.ok.1, a.ok.0, a.ok.1))
 
-pub ruleset readings = (basic_below-start, basic_below-more, basic_row-found, basic_row-none, basic_row-place, vector-none, vector-more, multiplier-kept, multiplier-turned, direction-here, direction-else, is_small)
+pub ruleset readings = (basic_below-start, basic_below-more, basic_row-found, basic_row-none, basic_row-cell, vector-none, vector-more, multiplier-kept, multiplier-turned, direction-here, direction-else, is_small)

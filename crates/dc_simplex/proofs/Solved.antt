@@ -13,7 +13,7 @@ use Rattle.dc_pivots.specs.declared.Ending.TheVariants.{Optimal, Infeasible, Unb
 use Rattle.dc_pivots.specs.declared.Due.TheVariants.{End}
 use Rattle.dc_pivots.specs.FieldLaws.{choose, IsFeasible, AreOpposite}
 use Rattle.dc_pivots.proofs.Choices.{Stop, none_feasible, finishes, stop}
-use Rattle.dc_pivots.proofs.Places.{stays_feasible}
+use Rattle.dc_pivots.proofs.Cells.{stays_feasible}
 use Rattle.dc_pivots.proofs.Opposites.{stay_opposite}
 use Rattle.dc_pivots.proofs.Rationals.{ends_right_rational}
 use Rattle.dc_pivots.proofs.Whole.{never_spent}

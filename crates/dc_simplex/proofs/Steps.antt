@@ -11,14 +11,14 @@ use Rattle.dc_lp.specs.Linear.{Linear}
 use Rattle.dc_lp.specs.Problems.{linear_of}
 use Rattle.dc_lp.specs.Tables as tables
 use Rattle.dc_lp.specs.Tables.{Table}
-use Rattle.dc_lp.specs.Meanings.{Meaning, resting, start, pivoted, pivot_fits, IsPivotPlace, IsUsable}
+use Rattle.dc_lp.specs.Meanings.{Meaning, resting, start, pivoted, pivot_fits, IsPivotCell, IsUsable}
 use Rattle.dc_pivots.specs.Runs as runs
 use Rattle.dc_pivots.specs.Runs.{State}
 use Rattle.dc_pivots.specs.declared.Phase.{Phase}
 use Rattle.dc_pivots.specs.declared.Phase.TheVariants.{One}
 use Rattle.dc_pivots.specs.declared.Due.{Due}
 use Rattle.dc_pivots.specs.declared.Due.TheVariants.{Pivot}
-use Rattle.dc_pivots.proofs.Places.{pivots_have_places}
+use Rattle.dc_pivots.proofs.Cells.{pivots_have_cells}
 use Rattle.dc_simplex.specs.Limits.{test_fits, due_in, IsReached}
 use Rattle.dc_simplex.specs.Steps.{told}
 use Rattle.dc_simplex.proofs.Reach.{reached-begun, reached-more}
@@ -87,8 +87,8 @@ module _ (p : Linear ℚ) (budget m n k : ℕ) (phase : Phase) (x : Meaning) (h 
   pub here-usable : IsUsable x
   here-usable = record { loaded = ap (λ (y : Meaning). y.loaded) h.rest; whole = ap (λ (y : Meaning). y.broken) h.rest }
 
-  pub here-place : (q : Phase) (r j : ℕ) → said (Pivot q r j) ≡ told x.table (due_in phase x.table) → IsPivotPlace x.table r j
-  here-place q r j e = (pivots_have_places p k (record { phase = phase; table = x.table }) q r j h.reaches.reached (told-ok x.table (due_in phase x.table) (Pivot q r j) e).0).0
+  pub here-cell : (q : Phase) (r j : ℕ) → said (Pivot q r j) ≡ told x.table (due_in phase x.table) → IsPivotCell x.table r j
+  here-cell q r j e = (pivots_have_cells p k (record { phase = phase; table = x.table }) q r j h.reaches.reached (told-ok x.table (due_in phase x.table) (Pivot q r j) e).0).0
 
   pub here-more : (q : Phase) (y : Meaning) (r j : ℕ) → said (Pivot q r j) ≡ told x.table (due_in phase x.table)
       → pivot_fits x.table r j ≡ true → y ≡ resting (pivoted x.table r j) → k ≢ budget → IsHere p budget m n (k + 1) q y

@@ -142,11 +142,11 @@ Shows p (Unbounded x r n) = ShowsUnbounded p x.items r.items
 
 -- ---- columns that are each other's negatives, with their costs
 
--- one of places u and v is 0
+-- the number at index u or that at index v is 0
 abbrev pub HasZero : List Frac → ℕ → ℕ → Type 0
 HasZero xs u v = (numbers xs u ≡ of_ℤ (pos 0)) ⊎ (numbers xs v ≡ of_ℤ (pos 0))
 
--- one of the two places is 0 in the solution, and in the ray
+-- one of the two numbers is 0 in the solution, and in the ray
 pub record HasZeros (x r : List Frac) (u v : ℕ) : Type 0 where
   pub solution : HasZero x u v
   pub ray : HasZero r u v

@@ -5,7 +5,7 @@ ghost use Rattle.std.specs.Prelude.{◌≡◌, ◌+◌, ◌<◌, ◌^◌, length
 ghost use Rattle.dc_math.specs.Rational.{ℚ};
 ghost use Rattle.dc_math.specs.RationalField.{rationals};
 ghost use Rattle.dc_lp.specs.Tables.{real_entry};
-ghost use Rattle.dc_lp.specs.Meanings.{IsUsable, drive_place};
+ghost use Rattle.dc_lp.specs.Meanings.{IsUsable, drive_cell};
 ghost use Rattle.dc_simplex.specs.Limits.{due_in};
 ghost use Rattle.dc_simplex.specs.Steps.{told, due_one, due_two, due_drive, end_one};
 
@@ -73,7 +73,7 @@ fn next_drive<T: Tableau>(m: usize, n: usize, tableau: &T) -> Result<Due, PastQu
     requires small { m + n + 1 < 2 ^ 64 }
     ensures { result ≡ told (T.meaning tableau.now).table (due_drive (T.meaning tableau.now).table) }
 {
-    match place_to_drive(m, n, tableau) {
+    match cell_to_drive(m, n, tableau) {
         None => next_two(m, tableau),
         Some((row, col)) => Ok(Due::Pivot(Phase::Drive, row, col)),
     }
@@ -98,12 +98,12 @@ fn next_two<T: Tableau>(m: usize, tableau: &T) -> Result<Due, PastQuotient>
 
 /// The first row with an artificial basic column and a nonzero real entry, and the least column of
 /// such an entry.
-fn place_to_drive<T: Tableau>(m: usize, n: usize, tableau: &T) -> Option<(usize, usize)>
+fn cell_to_drive<T: Tableau>(m: usize, n: usize, tableau: &T) -> Option<(usize, usize)>
     requires usable { IsUsable (T.meaning tableau.now) }
     requires rows { m ≡ length (T.meaning tableau.now).table.basis }
     requires columns { n ≡ (T.meaning tableau.now).table.real }
     requires small { m + n + 1 < 2 ^ 64 }
-    ensures { result ≡ drive_place (T.meaning tableau.now).table }
+    ensures { result ≡ drive_cell (T.meaning tableau.now).table }
 {
     for row in 0..m {
         if tableau.basic(row) >= n {

@@ -3,7 +3,7 @@
 
 ghost use Rattle.std.specs.Prelude.{◌≡◌, ◌+◌, ◌<◌, ◌^◌, true, false, OnOk, IfOk, IfErr, ◌⊎◌};
 ghost use Rattle.dc_lp.specs.Problems.{IsWellFormed, linear_of, columns};
-ghost use Rattle.dc_lp.specs.Meanings.{IsUsable, IsPivotPlace, ready_at, resting, start, pivoted, pivot_fits};
+ghost use Rattle.dc_lp.specs.Meanings.{IsUsable, IsPivotCell, ready_at, resting, start, pivoted, pivot_fits};
 ghost use Rattle.dc_simplex.specs.Steps.{Runs};
 
 use crate::SolveFault;
@@ -81,7 +81,7 @@ fn pivot_at<T: Tableau>(
     tableau: &mut T,
 ) -> Result<(), SolveFault>
     requires usable { IsUsable (T.meaning tableau.old) }
-    requires place { IsPivotPlace (T.meaning tableau.old).table row col }
+    requires cell { IsPivotCell (T.meaning tableau.old).table row col }
     requires ready { T.meaning tableau.old ≡ ready_at (T.meaning tableau.old).table row col }
     ensures ok { OnOk result (T.meaning tableau.new
         ≡ resting (pivoted (T.meaning tableau.old).table row col)) }
@@ -98,7 +98,7 @@ fn pivot_at<T: Tableau>(
 /// Makes the pivot of this number, which is due.
 fn change<T: Tableau>(row: usize, col: usize, pivot: u64, tableau: &mut T) -> Result<(), SolveFault>
     requires usable { IsUsable (T.meaning tableau.old) }
-    requires place { IsPivotPlace (T.meaning tableau.old).table row col }
+    requires cell { IsPivotCell (T.meaning tableau.old).table row col }
     ensures ok { OnOk result (T.meaning tableau.new
         ≡ resting (pivoted (T.meaning tableau.old).table row col)) }
     ensures fits { OnOk result (pivot_fits (T.meaning tableau.old).table row col ≡ true) }

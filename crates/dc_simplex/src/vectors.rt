@@ -157,7 +157,7 @@ fn entry_of<T: Tableau>(col: usize, at: usize, m: usize, n: usize, tableau: &T) 
     requires rows { m ≡ length (T.meaning tableau.now).table.basis }
     requires columns { n ≡ (T.meaning tableau.now).table.real }
     requires small { m + n + 1 < 2 ^ 64 }
-    requires place { at ≤ m + n }
+    requires within { at ≤ m + n }
     ensures { value result
         ≡ entry_or_zero ℚ rationals (T.meaning tableau.now).table at
         (basic_row (T.meaning tableau.now).table col) }

@@ -8,7 +8,7 @@ use Rattle.dc_sparse.specs.declared.web.Node.{Node}
 use Rattle.dc_sparse.specs.Nodes.{link, row_at, item, right_at, head_at, is_live}
 use Rattle.dc_sparse.specs.Webs.{IsFree, IsTop, free_count, IsWoven, IsBlank, AreEmpty, AreFreed, top_of}
 use Rattle.dc_sparse.specs.Entries.{IsPut, KeepsAll}
-use Rattle.dc_sparse.proofs.Cells.{IsWritten, at_same, at_other}
+use Rattle.dc_sparse.proofs.SingleWrites.{IsWritten, at_same, at_other}
 use Rattle.dc_sparse.proofs.FreeCounts.{free_count-first}
 
 pub freed_start : (xs : List Node) → AreFreed xs (length xs) 0

@@ -18,27 +18,27 @@ record IsTail (s : Lines) (from : Option ℕ) (i k : ℕ) (xs : List ℕ) : Type
   rise : RiseFrom s i k xs
   all : (a : ℕ) → IsFrom s i k a → Contains xs a
 
-module _ (s : Lines) (lines w i : ℕ) (head : ℕ → Option ℕ) (linked : AreLinked s lines head) (apart : AreApart s) (inside : (a : ℕ) → s.live a ≡ true → s.place a < w) where
+module _ (s : Lines) (lines w i : ℕ) (head : ℕ → Option ℕ) (linked : AreLinked s lines head) (apart : AreApart s) (inside : (a : ℕ) → s.live a ≡ true → s.index a < w) where
   ends : (k : ℕ) → IsFirst s i k None → IsTail s None i k []
   ends k f = record { chain = tt; rise = tt; all = λ a g. absurd (f a g) }
 
-  goes : (k b : ℕ) (xs : List ℕ) → IsFirst s i k (Some b) → IsTail s (s.next b) i (suc (s.place b)) xs → IsTail s (Some b) i k (b ∷ xs)
+  goes : (k b : ℕ) (xs : List ℕ) → IsFirst s i k (Some b) → IsTail s (s.next b) i (suc (s.index b)) xs → IsTail s (Some b) i k (b ∷ xs)
   goes k b xs f t = record {
     chain = (refl, t.chain);
     rise = (f.0, t.rise);
-    all = λ a g. elim (cases_Bool (s.place a == s.place b)) [
-      | inl e ↦ first_contained a b xs (apart a b g.live f.0.live (g.line ∙ sym f.0.line) (eqb-true (s.place a) (s.place b) e))
-      | inr e ↦ rest_contained a b xs (let ne : s.place a ≢ s.place b = eqb-false (s.place a) (s.place b) e in let l = f.1 a g in t.all a (record { live = g.live; line = g.line; place = omega arith }))
+    all = λ a g. elim (cases_Bool (s.index a == s.index b)) [
+      | inl e ↦ first_contained a b xs (apart a b g.live f.0.live (g.line ∙ sym f.0.line) (eqb-true (s.index a) (s.index b) e))
+      | inr e ↦ rest_contained a b xs (let ne : s.index a ≢ s.index b = eqb-false (s.index a) (s.index b) e in let l = f.1 a g in t.all a (record { live = g.live; line = g.line; index = omega arith }))
     ];
   }
 
   tail : (fuel k : ℕ) (o : Option ℕ) → w ≤ k + fuel → IsFirst s i k o → (xs : List ℕ) × IsTail s o i k xs
   tail fuel k None le f = ([], ends k f)
-  tail zero k (Some b) le f = absurd (let l = f.0.place in let m = inside b f.0.live in omega arith)
+  tail zero k (Some b) le f = absurd (let l = f.0.index in let m = inside b f.0.live in omega arith)
   tail (suc fuel) k (Some b) le f =
-      let l = f.0.place in
-      let g : IsFirst s i (s.place b + 1) (s.next b) = subst (λ x. IsFirst s x (s.place b + 1) (s.next b)) f.0.line (linked.nexts b f.0.live) in
-      let r = tail fuel (suc (s.place b)) (s.next b) (omega arith) (rw add-one at g) in
+      let l = f.0.index in
+      let g : IsFirst s i (s.index b + 1) (s.next b) = subst (λ x. IsFirst s x (s.index b + 1) (s.next b)) f.0.line (linked.nexts b f.0.live) in
+      let r = tail fuel (suc (s.index b)) (s.next b) (omega arith) (rw add-one at g) in
       (b ∷ r.0, goes k b r.0 f r.1)
 
   pub line_list : i < lines → (xs : List ℕ) × IsListOf s (head i) i xs

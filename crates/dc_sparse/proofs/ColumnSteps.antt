@@ -13,15 +13,15 @@ use Rattle.dc_sparse.specs.Entries.{entry_at}
 use Rattle.dc_sparse.specs.Rows.{row_gaps, rows_gaps}
 use Rattle.dc_sparse.proofs.Links.{next_first}
 use Rattle.dc_sparse.proofs.Entries.{entry-node, entry-vacant, item-live}
-use Rattle.dc_lp.proofs.Counts.{count_below-same, count_below-none, count_places-none}
+use Rattle.dc_lp.proofs.Counts.{count_below-same, count_below-none, count_cells-none}
 
 -- above the next node of a column its entries are 0
 pub gap_above : (xs : List Node) (col n : ℕ) (o : Option ℕ) → IsFirst (by_columns xs) col n o → (i : ℕ) → n ≤ i → ((m : ℕ) → o ≡ Some m → i < row_at xs m) → is_zero (entry_at xs i col) ≡ true
 gap_above xs col n o f i le lt = ap is_zero (entry-vacant xs i col (vacant o f lt)) ∙ eq_ℚ-true (of_ℤ (pos 0)) (of_ℤ (pos 0)) refl
   where
     vacant : (o : Option ℕ) → IsFirst (by_columns xs) col n o → ((m : ℕ) → o ≡ Some m → i < row_at xs m) → IsVacant xs i col
-    vacant None f lt c lc e q = f c (record { live = lc; line = q; place = omega arith })
-    vacant (Some m) f lt c lc e q = (let w = f.1 c (record { live = lc; line = q; place = omega arith }) in let l = lt m refl in omega arith)
+    vacant None f lt c lc e q = f c (record { live = lc; line = q; index = omega arith })
+    vacant (Some m) f lt c lc e q = (let w = f.1 c (record { live = lc; line = q; index = omega arith }) in let l = lt m refl in omega arith)
 
 -- ---- the gaps of all rows are counted
 
@@ -51,11 +51,11 @@ no_gap xs w pivot col i e = elim (cases_Bool (i == pivot)) [
 
 counted_skip : (xs : List Node) (w pivot col m n : ℕ) (o : Option ℕ) → IsFirst (by_columns xs) col m o → m ≤ n → ((c : ℕ) → o ≡ Some c → n ≤ row_at xs c) → rows_gaps xs w pivot col n ≡ rows_gaps xs w pivot col m
 unfolding rows_gaps
-counted_skip xs w pivot col m n o f le lt = count_places-none w _ m n le (λ i l u. no_gap xs w pivot col i (rw (gap_above xs col m o f i l (λ c e. (let v = lt c e in omega arith))) (or_true (i == pivot))))
+counted_skip xs w pivot col m n o f le lt = count_cells-none w _ m n le (λ i l u. no_gap xs w pivot col i (rw (gap_above xs col m o f i l (λ c e. (let v = lt c e in omega arith))) (or_true (i == pivot))))
 
 module _ (xs : List Node) (w pivot col count done node : ℕ) (h : AreCounted xs w pivot col count done (Some node)) (one : AreApart (by_rows xs)) (inside : node < length xs) (lines : ℕ) (head : ℕ → Option ℕ) (linked : AreLinked (by_columns xs) lines head) where
   counted_here : rows_gaps xs w pivot col (row_at xs node) ≡ rows_gaps xs w pivot col done
-  counted_here = counted_skip xs w pivot col done (row_at xs node) (Some node) h.next h.next.0.place (λ c e. (let q : row_at xs node ≡ row_at xs c = cc in omega arith))
+  counted_here = counted_skip xs w pivot col done (row_at xs node) (Some node) h.next h.next.0.index (λ c e. (let q : row_at xs node ≡ row_at xs c = cc in omega arith))
 
   counted_next : IsFirst (by_columns xs) col (row_at xs node + 1) (down_at xs node)
   counted_next = next_first (by_columns xs) lines head col node linked (h.next.0.live, h.next.0.line)

@@ -50,8 +50,8 @@ module _ (old new : List Node) (i pivot col : ℕ) (times factor : ℚ) (was now
     later = λ k l. p.behind k l ∙ h.later k (omega arith);
     rows = record {
       entries = λ a b ne. p.others a b ne ∙ h.rows.entries a b ne;
-      stays = λ m a b ne t. p.places.stays m a b (h.rows.stays m a b ne t);
-      stood = λ m a b ne t. h.rows.stood m a b ne (p.places.stood m a b t);
+      stays = λ m a b ne t. p.cells.stays m a b (h.rows.stays m a b ne t);
+      stood = λ m a b ne t. h.rows.stood m a b ne (p.cells.stood m a b t);
     };
     spare = gaps_skip old i pivot was now n m le h.spare;
   }
@@ -79,7 +79,8 @@ module _ (old new : List Node) (i pivot col : ℕ) (times factor : ℚ) (was now
 abbrev AreSmall : List Node → ℕ → ℕ → ℕ → ℚ → ℚ → ℕ → Type 0
 AreSmall old i pivot col times factor n = (k : ℕ) → k < n → IsWhole 41 (combined_entry old i pivot col times factor k)
 
--- what the loop along row `pivot` keeps: the columns before `done` are combined, `source` is the next node, `left` stands before it in row i
+-- what the loop along row `pivot` keeps: the columns before `done` are combined, `source` is the
+-- next node, `left` stands before it in row i
 pub record IsBeside (old new : List Node) (i pivot col : ℕ) (times factor : ℚ) (was now done : ℕ) (small : Bool) (source left : Option ℕ) : Type 0 where
   pub row : IsCombining old new i pivot col times factor was now done
   pub next : IsFirst (by_rows new) pivot done source
@@ -109,10 +110,10 @@ module _ (old new mid : List Node) (i pivot col : ℕ) (times factor : ℚ) (was
   far c e = (let q : col_at new node ≡ col_at new c = cc in omega arith)
 
   at : IsCombining old mid i pivot col times factor was now (col_at new node)
-  at = beside_on old new mid i pivot col times factor was now done (col_at new node) small (Some node) left h apart pivot_entry h.next.0.place far p
+  at = beside_on old new mid i pivot col times factor was now done (col_at new node) small (Some node) left h apart pivot_entry h.next.0.index far p
 
   pub beside_stands : StandsAt mid node pivot (col_at new node)
-  beside_stands = p.places.stays node pivot (col_at new node) (record { live = h.next.0.live; row = h.next.0.line; col = refl })
+  beside_stands = p.cells.stays node pivot (col_at new node) (record { live = h.next.0.live; row = h.next.0.line; col = refl })
 
   -- the entry of row i there is what it was
   pub beside_entry : entry_at mid i (col_at new node) ≡ entry_at old i (col_at new node)
@@ -146,6 +147,6 @@ module _ (old new mid : List Node) (i pivot col : ℕ) (times factor : ℚ) (was
             | inl q ↦ subst (λ x. IsWhole 41 (combined_entry old i pivot col times factor x)) (sym (eqb-true k (col_at new node) q)) (subst (IsWhole 41) v_is (t₃ z))
             | inr q ↦
                 (let ne = eqb-false k (col_at new node) q in
-                beside_small old new mid i pivot col times factor was now done (col_at new node) small (Some node) left h apart pivot_entry h.next.0.place far p (t₁ z) (t₂ z) k (omega arith))
+                beside_small old new mid i pivot col times factor was now done (col_at new node) small (Some node) left h apart pivot_entry h.next.0.index far p (t₁ z) (t₂ z) k (omega arith))
           ];
         }

@@ -8,7 +8,7 @@ use Rattle.dc_frac.specs.Value.{value}
 use Rattle.dc_sparse.specs.declared.web.Node.{Node}
 use Rattle.dc_sparse.specs.Lines.{AreApart}
 use Rattle.dc_sparse.specs.Nodes.{row_at, col_at, item, is_live, by_rows}
-use Rattle.dc_sparse.specs.Webs.{IsVacant, ChangesAt, IsPlaced, IsCleared}
+use Rattle.dc_sparse.specs.Webs.{IsVacant, ChangesAt, IsSeated, IsCleared}
 use Rattle.dc_sparse.specs.Entries.{share, entry_at, StandsAt, IsPut, KeepsAll, takes}
 
 pub nothing_more : (x : ℚ) → of_ℤ (pos 0) +ℚ x ≡ x
@@ -77,7 +77,7 @@ gives-elsewhere xs a i k ne = elim (cases_Bool (row_at xs a == i)) [
 pub gives-here : (xs : List Node) (a i k : ℕ) → row_at xs a ≡ i → col_at xs a ≡ k → gives xs a i k ≡ item xs a
 gives-here xs a i k e f = rw (eq-eqb (row_at xs a) i e, eq-eqb (col_at xs a) k f) refl
 
--- ---- the entry at a place
+-- ---- the entry at a cell
 
 pub entry-vacant : (xs : List Node) (i k : ℕ) → IsVacant xs i k → entry_at xs i k ≡ of_ℤ (pos 0)
 entry-vacant xs i k vacant = entry_none xs i k (λ a. elim (cases_Bool (is_live xs a)) [
@@ -127,9 +127,9 @@ module _ (old new : List Node) (n i k : ℕ) (h : ChangesAt old new n) where
     stood = λ a b c ne s. stood_other a b c (λ q. (let w = sn b c (subst (λ x. StandsAt new x b c) q s) in ne w.0 w.1)) s;
   }
 
--- a node is placed where none was
-pub put_placed : (old new : List Node) (n i k : ℕ) (v : ℚ) → n < length new → AreApart (by_rows new) → is_zero v ≡ false → IsPlaced old new n i k v → IsPut old new i k v
-put_placed old new n i k v lt apart nz h =
+-- a node is seated where none was
+pub put_seated : (old new : List Node) (n i k : ℕ) (v : ℚ) → n < length new → AreApart (by_rows new) → is_zero v ≡ false → IsSeated old new n i k v → IsPut old new i k v
+put_seated old new n i k v lt apart nz h =
     let live : is_live new n ≡ true = ap (λ q. not (is_zero q)) h.item ∙ ap not nz in
     put_by old new n i k h.others v
     (λ b c s. (let e = s.live in let f = h.was in absurd (let r : ⊥ = cc in r)))

@@ -14,7 +14,7 @@ use Rattle.dc_sparse.specs.Entries.{entry_at, IsPut}
 use Rattle.dc_sparse.specs.Fills.{IsFilled, IsFilling}
 use Rattle.dc_sparse.proofs.Entries.{entry-vacant}
 
--- ---- places of the starting table that are 0
+-- ---- cells of the starting table that are 0
 
 signed_zero : (b : ℤ) → pos 0 ≡ signed b (pos 0)
 signed_zero b = elim (cases_Bool (int_lt b (pos 0))) [
@@ -44,7 +44,7 @@ module _ (p : Problem) (xs : List Node) (h : ℕ) where
     none_else = λ n i k s. inl (let l = f.none_else n i k s in omega arith);
   }
 
-  -- one place more
+  -- one cell more
   pub filling_more : (ys : List Node) (row col : ℕ) (v : ℚ) → IsFilling p xs h (row + 1) col → IsPut xs ys row col v → v ≡ start_value p row col → IsFilling p ys h row col
   filling_more ys row col v f put e = record {
     entries = λ i k li l lk. put.others i k (λ _ q. absurd (omega arith)) ∙ f.entries i k li l lk;

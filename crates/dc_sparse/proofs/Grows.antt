@@ -9,7 +9,7 @@ use Rattle.dc_sparse.specs.Nodes.{link, row_at, col_at, right_at, head_at, is_li
 use Rattle.dc_sparse.specs.Webs.{IsFree, IsTop, IsFreeList, IsWoven}
 use Rattle.dc_sparse.specs.Entries.{KeepsAll}
 use Rattle.dc_sparse.proofs.Lines.{StandAs, linked_all, apart_less}
-use Rattle.dc_sparse.proofs.Cells.{IsAppended, appended, item_live, at_same, at_other}
+use Rattle.dc_sparse.proofs.SingleWrites.{IsAppended, appended, item_live, at_same, at_other}
 use Rattle.dc_sparse.proofs.FreeCounts.{free_count-more}
 use Rattle.dc_sparse.proofs.Entries.{entry_appended}
 
@@ -43,10 +43,10 @@ module _ (xs : List Node) (rh ch : List (Option ℕ)) (free : Option ℕ) (spare
   col_other a ne = h.col a ∙ at_other a n _ _ ne
 
   rows_stand : StandAs (by_rows xs) (by_rows ys) n
-  rows_stand = record { live = live_other; line = row_other; place = col_other }
+  rows_stand = record { live = live_other; line = row_other; index = col_other }
 
   columns_stand : StandAs (by_columns xs) (by_columns ys) n
-  columns_stand = record { live = live_other; line = col_other; place = row_other }
+  columns_stand = record { live = live_other; line = col_other; index = row_other }
 
   -- ---- the free list
 

@@ -14,7 +14,7 @@ use Rattle.dc_sparse.proofs.Wholes.{is_zero-zero}
 use Rattle.dc_sparse.proofs.Scaling.{den_of-positive}
 use Rattle.dc_sparse.specs.Held.{held_at, height_of, width_of, rows_of, columns_of}
 use Rattle.dc_sparse.specs.Laws.{row_head, column_head, IsHeld, HasLists}
-use Rattle.dc_sparse.proofs.Cells.{item_live}
+use Rattle.dc_sparse.proofs.SingleWrites.{item_live}
 use Rattle.dc_sparse.proofs.Chains.{line_list, free_list, fall_dead}
 use Rattle.dc_sparse.proofs.Entries.{entry-node, entry-vacant}
 
@@ -50,8 +50,8 @@ held s = record {
   column_lists = λ k l. (column_list s.web k).1 l;
   free_list = (free_one s.web).1;
   linked = λ a l la. (
-    ((row_list s.web (row_at s.web.nodes.items a)).1 (s.web.woven.within a la).0).all a (record { live = la; line = refl; place = omega arith }),
-    ((column_list s.web (col_at s.web.nodes.items a)).1 (s.web.woven.within a la).1).all a (record { live = la; line = refl; place = omega arith }),
+    ((row_list s.web (row_at s.web.nodes.items a)).1 (s.web.woven.within a la).0).all a (record { live = la; line = refl; index = omega arith }),
+    ((column_list s.web (col_at s.web.nodes.items a)).1 (s.web.woven.within a la).1).all a (record { live = la; line = refl; index = omega arith }),
     not_free s.web a la,
   );
   unused = λ a l d. (free_one s.web).1.all a (record { inside = l; dead = d });

@@ -9,7 +9,7 @@ use Rattle.dc_frac.specs.Value.{value}
 use Rattle.dc_frac.specs.Fits.{IsWithin}
 use Rattle.dc_sparse.specs.declared.web.Web.{Web}
 use Rattle.dc_sparse.specs.declared.scaled.Scaled.{Scaled}
-use Rattle.dc_sparse.specs.Entries.{entry_at, KeepsPlaces}
+use Rattle.dc_sparse.specs.Entries.{entry_at, KeepsCells}
 use Rattle.dc_sparse.specs.Rows.{KeepsRows}
 use Rattle.dc_sparse.specs.Scales.{IsWhole, IsDen, scale_at, den_of, scaled_at}
 use Rattle.dc_sparse.specs.Held.{height_of, held_at, KeepsSizes, KeepsOthers, TakesOver, KeepsEntries}
@@ -54,19 +54,19 @@ module _ (s t : Scaled) (i : ℕ) (o : Option Frac) (lt : i < height_of s.web) (
   old_scale : (a : ℕ) → a ≢ i → scale_at t.dens.items a ≡ scale_at s.dens.items a
   old_scale a ne = ap (λ ds. scale_at ds a) dens ∙ scale-elsewhere s.dens.items i o a inside ne
 
-  pub rewritten : KeepsPlaces s.web.nodes.items t.web.nodes.items → KeepsSizes s.web t.web → KeepsOthers s t i
-  rewritten places sizes = record {
+  pub rewritten : KeepsCells s.web.nodes.items t.web.nodes.items → KeepsSizes s.web t.web → KeepsOthers s t i
+  rewritten cells sizes = record {
     entries = λ a b ne. held-kept s t a b (old_scale a ne) (rows.entries a b ne);
     scales = old_scale;
-    places = places;
+    cells = cells;
     sizes = sizes;
   }
 
-  pub taken_over : (by : ℚ) → ((k : ℕ) → entry_at t.web.nodes.items i k /ℚ den_of o ≡ entry_at s.web.nodes.items i k /ℚ by) → KeepsPlaces s.web.nodes.items t.web.nodes.items → KeepsSizes s.web t.web → TakesOver s t i by
+  pub taken_over : (by : ℚ) → ((k : ℕ) → entry_at t.web.nodes.items i k /ℚ den_of o ≡ entry_at s.web.nodes.items i k /ℚ by) → KeepsCells s.web.nodes.items t.web.nodes.items → KeepsSizes s.web t.web → TakesOver s t i by
   unfolding held_at scaled_at
-  taken_over by e places sizes = record {
+  taken_over by e cells sizes = record {
     here = λ k. ap (λ (p : Option Frac). entry_at t.web.nodes.items i k /ℚ den_of p) new_scale ∙ e k;
-    others = rewritten places sizes;
+    others = rewritten cells sizes;
   }
 
 pub same_sizes : (w : Web) → KeepsSizes w w
@@ -79,7 +79,7 @@ pub others_same : (s : Scaled) (i : ℕ) → KeepsOthers s s i
 others_same s i = record {
   entries = λ a b ne. refl;
   scales = λ a ne. refl;
-  places = record { stays = λ n a b h. h; stood = λ n a b h. h };
+  cells = record { stays = λ n a b h. h; stood = λ n a b h. h };
   sizes = same_sizes s.web;
 }
 
@@ -87,7 +87,7 @@ pub others_on : (s t u : Scaled) (i : ℕ) → KeepsOthers s t i → KeepsOthers
 others_on s t u i h k = record {
   entries = λ a b ne. k.entries a b ne ∙ h.entries a b ne;
   scales = λ a ne. k.scales a ne ∙ h.scales a ne;
-  places = record { stays = λ n a b p. k.places.stays n a b (h.places.stays n a b p); stood = λ n a b p. h.places.stood n a b (k.places.stood n a b p) };
+  cells = record { stays = λ n a b p. k.cells.stays n a b (h.cells.stays n a b p); stood = λ n a b p. h.cells.stood n a b (k.cells.stood n a b p) };
   sizes = sizes_on s.web t.web u.web h.sizes k.sizes;
 }
 

@@ -3,7 +3,7 @@ use Rattle.std.proofs.Common.{◌≡◌, ◌≢◌, ℕ, suc, ◌+◌, ◌<◌, 
 use Rattle.std.proofs.lemmas.Bool.{cases_Bool, ne_eqb, eqb-true, eqb-false, ltb-true, ltb-false}
 use Rattle.dc_math.specs.Rational.{ℚ}
 use Rattle.dc_math.specs.Tests.{is_zero}
-use Rattle.dc_lp.specs.Fill.{count_below, count_places}
+use Rattle.dc_lp.specs.Fill.{count_below, count_cells}
 use Rattle.dc_lp.proofs.Belows.{all_below-fails, all_below-same, or_true}
 use Rattle.dc_sparse.specs.declared.web.Node.{Node}
 use Rattle.dc_sparse.specs.Lines.{AreApart, AreLinked, IsFrom, IsFirst}
@@ -13,34 +13,34 @@ use Rattle.dc_sparse.specs.Rows.{steps_fit, stepped_at, row_fits, rows_fit, redu
 use Rattle.dc_sparse.proofs.Links.{next_first}
 use Rattle.dc_sparse.proofs.Entries.{entry-node, item-live}
 use Rattle.dc_sparse.proofs.ColumnSteps.{gap_above}
-use Rattle.dc_lp.proofs.Counts.{all_below-on, count_below-same, count_places-on}
+use Rattle.dc_lp.proofs.Counts.{all_below-on, count_below-same, count_cells-on}
 
 -- ---- a walk down a column, over a row that changes
 
 module _ (xs ys : List Node) (i : ℕ) (stays : (n a b : ℕ) → a ≢ i → StandsAt xs n a b → StandsAt ys n a b) (stood : (n a b : ℕ) → a ≢ i → StandsAt ys n a b → StandsAt xs n a b) where
   from_below : (col k c : ℕ) → i < k → IsFrom (by_columns xs) col k c → StandsAt ys c (row_at xs c) col
-  from_below col k c lt f = (let l = f.place in stays c (row_at xs c) col (λ e. absurd (omega arith)) (record { live = f.live; row = refl; col = f.line }))
+  from_below col k c lt f = (let l = f.index in stays c (row_at xs c) col (λ e. absurd (omega arith)) (record { live = f.live; row = refl; col = f.line }))
 
   from_above : (col k c : ℕ) → i < k → IsFrom (by_columns ys) col k c → StandsAt xs c (row_at ys c) col
-  from_above col k c lt f = (let l = f.place in stood c (row_at ys c) col (λ e. absurd (omega arith)) (record { live = f.live; row = refl; col = f.line }))
+  from_above col k c lt f = (let l = f.index in stood c (row_at ys c) col (λ e. absurd (omega arith)) (record { live = f.live; row = refl; col = f.line }))
 
   -- from below the row on the first node of a column stays
   pub first_below : (col k : ℕ) (o : Option ℕ) → i < k → IsFirst (by_columns xs) col k o → IsFirst (by_columns ys) col k o
   first_below col k None lt f = λ c g.
-      let l = g.place in
+      let l = g.index in
       let s = from_above col k c lt g in
       let e = s.row in
-      f c (record { live = s.live; line = s.col; place = omega arith })
+      f c (record { live = s.live; line = s.col; index = omega arith })
   first_below col k (Some b) lt f =
       let s = from_below col k b lt f.0 in
       let eb = s.row in
-      let lb = f.0.place in (
-        record { live = s.live; line = s.col; place = omega arith },
+      let lb = f.0.index in (
+        record { live = s.live; line = s.col; index = omega arith },
         λ c g.
             let t = from_above col k c lt g in
             let ec = t.row in
-            let lc = g.place in
-            let l = f.1 c (record { live = t.live; line = t.col; place = omega arith }) in
+            let lc = g.index in
+            let l = f.1 c (record { live = t.live; line = t.col; index = omega arith }) in
             omega arith,
       )
 
@@ -78,7 +78,7 @@ module _ (old new : ℕ → ℕ → ℚ) (w pivot col was now n : ℕ) (h : AreR
     ];
     later = λ a b l. h.later a b (omega arith);
     pivot_row = h.pivot_row;
-    spare = (let s = h.spare in let c = count_places-on w (λ i k. is_zero (old i k) && not (is_zero (old i col)) && not (is_zero (old pivot k))) n m le in omega arith);
+    spare = (let s = h.spare in let c = count_cells-on w (λ i k. is_zero (old i k) && not (is_zero (old i col)) && not (is_zero (old pivot k))) n m le in omega arith);
   }
 
   -- the gaps of row n are what they were
@@ -100,7 +100,7 @@ module _ (old new : ℕ → ℕ → ℚ) (w pivot col was now n : ℕ) (h : AreR
     pub rows_room : (height : ℕ) → n < height → gaps_in_rows old w pivot col height ≤ was → gaps_in_row new n pivot w ≤ now
     rows_room height lt room =
         let s = h.spare in
-        let c : count_places (suc n) w (λ i k. is_zero (old i k) && not (is_zero (old i col)) && not (is_zero (old pivot k))) ≤ count_places height w (λ i k. is_zero (old i k) && not (is_zero (old i col)) && not (is_zero (old pivot k))) = count_places-on w _ (suc n) height (omega arith) in
+        let c : count_cells (suc n) w (λ i k. is_zero (old i k) && not (is_zero (old i col)) && not (is_zero (old pivot k))) ≤ count_cells height w (λ i k. is_zero (old i k) && not (is_zero (old i col)) && not (is_zero (old pivot k))) = count_cells-on w _ (suc n) height (omega arith) in
         let g = gaps_here in
         let q = same_gaps in
         omega arith
@@ -137,7 +137,7 @@ pub record AreDown (old new : ℕ → ℕ → ℚ) (xs : List Node) (w pivot col
 
 module _ (old new : ℕ → ℕ → ℚ) (xs : List Node) (same : (i k : ℕ) → is_zero (new i k) ≡ is_zero (entry_at xs i k)) (w pivot col was now done node : ℕ) (h : AreDown old new xs w pivot col was now done (Some node)) where
   pub down_at_row : AreReducing old new w pivot col was now (row_at xs node)
-  down_at_row = rows_skip old new w pivot col was now done h.rows (row_at xs node) h.next.0.place
+  down_at_row = rows_skip old new w pivot col was now done h.rows (row_at xs node) h.next.0.index
       (λ i le lt. rw (ap is_zero (sym (h.rows.later i col le)) ∙ same i col ∙ gap_above xs col done (Some node) h.next i le (λ m e. (let q : row_at xs node ≡ row_at xs m = cc in omega arith))) (or_true (i == pivot)))
 
   module _ (one : AreApart (by_rows xs)) (inside : node < length xs) where

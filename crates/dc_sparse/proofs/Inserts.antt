@@ -6,9 +6,9 @@ use Rattle.dc_frac.specs.Value.{value}
 use Rattle.dc_sparse.specs.declared.web.Node.{Node}
 use Rattle.dc_sparse.specs.Lines.{Lines, IsFirst, IsLast, AreApart, link_after}
 use Rattle.dc_sparse.specs.Nodes.{link, row_at, col_at, item, right_at, down_at, head_at, is_live, by_rows, by_columns, IsIn, IsRelinkedRight, IsRelinkedDown, AreReheaded}
-use Rattle.dc_sparse.specs.Webs.{IsFree, IsTop, IsFreeList, AreWithin, IsWoven, IsVacant, IsPlaced}
+use Rattle.dc_sparse.specs.Webs.{IsFree, IsTop, IsFreeList, AreWithin, IsWoven, IsVacant, IsSeated}
 use Rattle.dc_sparse.proofs.Lines.{StandAs, IsInserted, inserted, apart_more}
-use Rattle.dc_sparse.proofs.Cells.{IsWritten, at_same, at_other}
+use Rattle.dc_sparse.proofs.SingleWrites.{IsWritten, at_same, at_other}
 use Rattle.dc_sparse.proofs.FreeCounts.{free_count-less}
 
 -- what is linked behind a node that isn't `before`
@@ -16,7 +16,7 @@ pub relinked_other : (before to : Option ℕ) (a : ℕ) (o : Option ℕ) → ((p
 relinked_other None to a o ne = refl
 relinked_other (Some p) to a o ne = at_other a p to o (ne p refl)
 
--- the last node before a place is linked
+-- the last node before an index is linked
 pub last_live : (s : Lines) (i k : ℕ) (o : Option ℕ) (p : ℕ) → IsLast s i k o → o ≡ Some p → s.live p ≡ true
 last_live s i k o p l e = (let f : IsLast s i k (Some p) = subst (IsLast s i k) e l in f.0.live)
 
@@ -47,8 +47,8 @@ module _ (xs ws ys zs : List Node) (rh rh' ch ch' : List (Option ℕ)) (spare n 
   item_all : (a : ℕ) → item zs a ≡ cond (a == n) (value x.value) (item xs a)
   item_all a = d.item a ∙ r.item a ∙ w.item a
 
-  pub placed : IsPlaced xs zs n x.row x.col (value x.value)
-  placed = record {
+  pub seated : IsSeated xs zs n x.row x.col (value x.value)
+  seated = record {
     was = taken.dead;
     row = row_all n ∙ at_same n _ _;
     col = col_all n ∙ at_same n _ _;
@@ -62,10 +62,10 @@ module _ (xs ws ys zs : List Node) (rh rh' ch ch' : List (Option ℕ)) (spare n 
   }
 
   live_other : (a : ℕ) → a ≢ n → is_live zs a ≡ is_live xs a
-  live_other a ne = ap (λ q. not (is_zero q)) (placed.others.item a ne)
+  live_other a ne = ap (λ q. not (is_zero q)) (seated.others.item a ne)
 
   live_new : is_live zs n ≡ true
-  live_new = ap (λ q. not (is_zero q)) placed.item ∙ ap not nonzero
+  live_new = ap (λ q. not (is_zero q)) seated.item ∙ ap not nonzero
 
   -- a linked node isn't n
   not_taken : (a : ℕ) → is_live xs a ≡ true → a ≢ n
@@ -90,37 +90,37 @@ module _ (xs ws ys zs : List Node) (rh rh' ch ch' : List (Option ℕ)) (spare n 
   down_other a ne = d.down a ∙ ap (link_after above (Some n) a) (r.down a ∙ w.down a ∙ at_other a n _ _ ne)
 
   rows_stand : StandAs (by_rows xs) (by_rows zs) n
-  rows_stand = record { live = live_other; line = placed.others.row; place = placed.others.col }
+  rows_stand = record { live = live_other; line = seated.others.row; index = seated.others.col }
 
   columns_stand : StandAs (by_columns xs) (by_columns zs) n
-  columns_stand = record { live = live_other; line = placed.others.col; place = placed.others.row }
+  columns_stand = record { live = live_other; line = seated.others.col; index = seated.others.row }
 
   rows_in : IsInserted (by_rows xs) (by_rows zs) (head_at rh) (head_at rh') n x.row x.col left (link x.right)
-  rows_in = record { others = rows_stand; dead = taken.dead; live = live_new; line = placed.row; place = placed.col; next = right_new; nexts = right_other; heads = hr.heads }
+  rows_in = record { others = rows_stand; dead = taken.dead; live = live_new; line = seated.row; index = seated.col; next = right_new; nexts = right_other; heads = hr.heads }
 
   columns_in : IsInserted (by_columns xs) (by_columns zs) (head_at ch) (head_at ch') n x.col x.row above (link x.down)
-  columns_in = record { others = columns_stand; dead = taken.dead; live = live_new; line = placed.col; place = placed.row; next = down_new; nexts = down_other; heads = hc.heads }
+  columns_in = record { others = columns_stand; dead = taken.dead; live = live_new; line = seated.col; index = seated.row; next = down_new; nexts = down_other; heads = hc.heads }
 
-  -- no two nodes at one place, read by columns
+  -- no two nodes at one cell, read by columns
   columns_apart : AreApart (by_columns xs)
   columns_apart a b la lb e f = woven.apart a b la lb f e
 
   -- ---- the free list
 
   still_free : (a : ℕ) → IsFree xs a → a ≢ n → IsFree zs a
-  still_free a f ne = (let l = f.inside in let g = placed.others.long in record { inside = omega arith; dead = live_other a ne ∙ f.dead })
+  still_free a f ne = (let l = f.inside in let g = seated.others.long in record { inside = omega arith; dead = live_other a ne ∙ f.dead })
 
   free_other : (a : ℕ) → IsFree zs a → a ≢ n
   free_other a f e = (let q : is_live zs a ≡ is_live zs n = ap (is_live zs) e in let g = f.dead in let v = live_new in cc)
 
   was_free : (a : ℕ) → IsFree zs a → IsFree xs a
-  was_free a f = (let l = f.inside in let g = placed.others.long in record { inside = omega arith; dead = sym (live_other a (free_other a f)) ∙ f.dead })
+  was_free a f = (let l = f.inside in let g = seated.others.long in record { inside = omega arith; dead = sym (live_other a (free_other a f)) ∙ f.dead })
 
   top_same : (k : ℕ) (o : Option ℕ) → k ≤ row_at xs n → IsTop xs k o → IsTop zs k o
   top_same k None le t = t
   top_same k (Some f) le t =
       let ne : f ≢ n = (λ e. (let q : row_at xs f ≡ row_at xs n = ap (row_at xs) e in let u = t.1 in omega arith)) in
-      (still_free f t.0 ne, ap (λ z. z + 1) (placed.others.row f ne) ∙ t.1)
+      (still_free f t.0 ne, ap (λ z. z + 1) (seated.others.row f ne) ∙ t.1)
 
   free_right : (a : ℕ) → IsFree xs a → a ≢ n → right_at zs a ≡ right_at xs a
   free_right a f ne = right_other a ne ∙ relinked_other left (Some n) a (right_at xs a)
@@ -136,30 +136,30 @@ module _ (xs ws ys zs : List Node) (rh rh' ch ch' : List (Option ℕ)) (spare n 
             let ne = free_other a f in
             let l = woven.unused.ranks a g in
             let v : row_at xs a ≢ row_at xs n = (λ e. ne (woven.unused.apart a n g taken e)) in
-            let s = placed.others.row a ne in
+            let s = seated.others.row a ne in
             omega arith;
         nexts = λ a f.
             let g = was_free a f in
             let ne = free_other a f in
             let l = woven.unused.ranks a g in
-            rw (placed.others.row a ne, free_right a g ne) (top_same (row_at xs a) (right_at xs a) (omega arith) (woven.unused.nexts a g));
-        apart = λ a b f g e. woven.unused.apart a b (was_free a f) (was_free b g) (sym (placed.others.row a (free_other a f)) ∙ e ∙ placed.others.row b (free_other b g));
+            rw (seated.others.row a ne, free_right a g ne) (top_same (row_at xs a) (right_at xs a) (omega arith) (woven.unused.nexts a g));
+        apart = λ a b f g e. woven.unused.apart a b (was_free a f) (was_free b g) (sym (seated.others.row a (free_other a f)) ∙ e ∙ seated.others.row b (free_other b g));
       }
 
   within : AreWithin zs (length rh') (length ch')
   within a la = elim (cases_Bool (a == n)) [
     | inl e ↦
         (let same : a ≡ n = eqb-true a n e in
-        let i : row_at zs a ≡ x.row = ap (row_at zs) same ∙ placed.row in
-        let k : col_at zs a ≡ x.col = ap (col_at zs) same ∙ placed.col in
+        let i : row_at zs a ≡ x.row = ap (row_at zs) same ∙ seated.row in
+        let k : col_at zs a ≡ x.col = ap (col_at zs) same ∙ seated.col in
         let lr = hr.long in
         let lc = hc.long in
         (omega arith, omega arith))
     | inr e ↦
         (let ne : a ≢ n = eqb-false a n e in
         let l = woven.within a (sym (live_other a ne) ∙ la) in
-        let i = placed.others.row a ne in
-        let k = placed.others.col a ne in
+        let i = seated.others.row a ne in
+        let k = seated.others.col a ne in
         let lr = hr.long in
         let lc = hc.long in
         (omega arith, omega arith))
@@ -167,13 +167,13 @@ module _ (xs ws ys zs : List Node) (rh rh' ch ch' : List (Option ℕ)) (spare n 
 
   pub woven_more : IsWoven zs rh' ch' (right_at xs n) (spare - 1)
   woven_more =
-      let c = free_count-less xs zs n placed.others.long taken.inside taken.dead live_new live_other in
+      let c = free_count-less xs zs n seated.others.long taken.inside taken.dead live_new live_other in
       let o = woven.count in
       record {
         within = within;
         rows = rw hr.long (inserted (by_rows xs) (by_rows zs) (length rh) (head_at rh) (head_at rh') n x.row x.col left (link x.right) rows_in woven.apart vacant last_left first_right woven.rows);
         columns = rw hc.long (inserted (by_columns xs) (by_columns zs) (length ch) (head_at ch) (head_at ch') n x.col x.row above (link x.down) columns_in columns_apart (λ c lc e f. vacant c lc f e) last_above first_down woven.columns);
-        apart = apart_more (by_rows xs) (by_rows zs) n x.row x.col rows_stand live_new placed.row placed.col vacant woven.apart;
+        apart = apart_more (by_rows xs) (by_rows zs) n x.row x.col rows_stand live_new seated.row seated.col vacant woven.apart;
         unused = unused;
         count = omega arith;
       }

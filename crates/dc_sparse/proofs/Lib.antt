@@ -1,5 +1,5 @@
 pub mod Lines
-pub mod Cells
+pub mod SingleWrites
 pub mod Links
 pub mod FreeCounts
 pub mod Inserts
@@ -25,7 +25,7 @@ pub mod ColumnSteps
 pub mod HeldSteps
 pub mod PivotSteps
 pub mod Tables
-pub mod Places
+pub mod Fits
 pub mod SameTables
 pub mod HeldRatios
 pub mod Rooms

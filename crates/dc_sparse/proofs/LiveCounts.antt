@@ -4,7 +4,7 @@ use Rattle.std.proofs.lemmas.Bool.{cases_Bool}
 use Rattle.dc_math.specs.Rational.{ℚ, of_ℤ, ◌+ℚ◌}
 use Rattle.dc_math.specs.Tests.{is_zero, eq_ℚ-true}
 use Rattle.dc_frac.specs.Value.{value}
-use Rattle.dc_lp.specs.Fill.{count_places}
+use Rattle.dc_lp.specs.Fill.{count_cells}
 use Rattle.dc_sparse.specs.declared.web.Node.{Node}
 use Rattle.dc_sparse.specs.Lines.{AreApart}
 use Rattle.dc_sparse.specs.Nodes.{row_at, col_at, item, by_rows}
@@ -13,9 +13,9 @@ use Rattle.dc_sparse.specs.Entries.{share, entry_at}
 use Rattle.dc_sparse.specs.Sizes.{held_count, live_count}
 use Rattle.dc_sparse.proofs.Entries.{entry-vacant, gives-elsewhere, gives-here, gives-dead, nothing_more, nothing_else}
 use Rattle.dc_sparse.proofs.FreeCounts.{free_count-cons, weight-live, weight-dead}
-use Rattle.dc_lp.proofs.Counts.{count_places-empty, count_places-more, count_places-same}
+use Rattle.dc_lp.proofs.Counts.{count_cells-empty, count_cells-more, count_cells-same}
 
--- the nodes stand within h rows and w columns, no two at one place
+-- the nodes stand within h rows and w columns, no two at one cell
 record AreSpread (xs : List Node) (h w : ℕ) : Type 0 where
   apart : AreApart (by_rows xs)
   within : AreWithin xs h w
@@ -27,7 +27,7 @@ spread_rest x xs h w s = record {
   within = λ a la. s.within (suc a) la;
 }
 
--- no node behind the first one stands at its place
+-- no node behind the first one stands at its cell
 rest_vacant : (x : Node) (xs : List Node) → AreApart (by_rows (x ∷ xs)) → not (is_zero (value x.value)) ≡ true → IsVacant xs x.row x.col
 unfolding row_at col_at item
 rest_vacant x xs apart live c lc e f = (let q : 0 ≡ suc c = apart 0 (suc c) live lc (sym e) (sym f) in omega arith)
@@ -70,23 +70,23 @@ entry-none i k = refl
 entries-count : (xs : List Node) (h w : ℕ) → AreSpread xs h w → held_count xs h w + free_count xs ≡ length xs
 unfolding held_count
 entries-count [] h w s =
-    let e = count_places-empty (λ i k. not (is_zero (entry_at [] i k))) h w (λ i k. zero-test (entry_at [] i k) (entry-none i k)) in
+    let e = count_cells-empty (λ i k. not (is_zero (entry_at [] i k))) h w (λ i k. zero-test (entry_at [] i k) (entry-none i k)) in
     let f : free_count [] ≡ 0 = refl in
     omega arith
 entries-count (x ∷ xs) h w s =
-    let r : count_places h w (λ i k. not (is_zero (entry_at xs i k))) + free_count xs ≡ length xs = entries-count xs h w (spread_rest x xs h w s) in
+    let r : count_cells h w (λ i k. not (is_zero (entry_at xs i k))) + free_count xs ≡ length xs = entries-count xs h w (spread_rest x xs h w s) in
     let f = free_count-cons x xs in
     elim (cases_Bool (not (is_zero (value x.value)))) [
       | inl live ↦
           (let inside = first_within x xs h w s.within live in
           let zero = entry-vacant xs x.row x.col (rest_vacant x xs s.apart live) in
-          let m = count_places-more (λ i k. not (is_zero (entry_at xs i k))) (λ i k. not (is_zero (entry_at (x ∷ xs) i k))) h w x.row x.col inside.0 inside.1
+          let m = count_cells-more (λ i k. not (is_zero (entry_at xs i k))) (λ i k. not (is_zero (entry_at (x ∷ xs) i k))) h w x.row x.col inside.0 inside.1
           (zero-test (entry_at xs x.row x.col) zero) (ap (λ q. not (is_zero q)) (entry-here x xs zero) ∙ live)
           (λ a b ne. ap (λ q. not (is_zero q)) (entry-rest x xs a b (share-elsewhere x a b (λ p q. ne (sym p) (sym q))))) in
           let l = weight-live x live in
           omega arith)
       | inr dead ↦
-          (let m = count_places-same (λ i k. not (is_zero (entry_at (x ∷ xs) i k))) (λ i k. not (is_zero (entry_at xs i k))) h w
+          (let m = count_cells-same (λ i k. not (is_zero (entry_at (x ∷ xs) i k))) (λ i k. not (is_zero (entry_at xs i k))) h w
           (λ i k li lk. ap (λ q. not (is_zero q)) (entry-rest x xs i k (share-dead x i k dead))) in
           let l = weight-dead x dead in
           omega arith)

@@ -12,15 +12,15 @@ use Rattle.dc_frac.specs.declared.Frac.{Frac}
 use Rattle.dc_frac.specs.Value.{value}
 use Rattle.dc_frac.proofs.ValueLaws.{lowest-value}
 use Rattle.dc_sparse.specs.declared.web.Node.{Node}
-use Rattle.dc_sparse.specs.Lines.{AreApart, AreLinked, IsFirst, IsLast, StandsBefore, place_after}
+use Rattle.dc_sparse.specs.Lines.{AreApart, AreLinked, IsFirst, IsLast, StandsBefore, index_after}
 use Rattle.dc_sparse.specs.Nodes.{col_at, right_at, item, by_rows}
-use Rattle.dc_sparse.specs.Entries.{entry_at, StandsAt, IsPut, KeepsPlaces}
+use Rattle.dc_sparse.specs.Entries.{entry_at, StandsAt, IsPut, KeepsCells}
 use Rattle.dc_sparse.specs.Rows.{reduced_entry, IsMultiplied}
 use Rattle.dc_sparse.specs.Scales.{IsWhole}
 use Rattle.dc_sparse.proofs.Links.{IsWalk, left_from, next_first, walk_stops, walk_ends}
 use Rattle.dc_sparse.proofs.Entries.{entry-node}
 use Rattle.dc_sparse.proofs.RowSteps.{gap_before}
-use Rattle.dc_sparse.proofs.Quotients.{places_put}
+use Rattle.dc_sparse.proofs.Quotients.{cells_put}
 use Rattle.dc_sparse.proofs.Wholes.{whole_is, whole_zero}
 
 -- ---- numbers
@@ -74,7 +74,7 @@ multiplied_start xs i n m times le = record {
   before = λ k l. refl;
   behind = λ k l. refl;
   others = λ a b ne. refl;
-  places = record { stays = λ n a b s. s; stood = λ n a b s. s };
+  cells = record { stays = λ n a b s. s; stood = λ n a b s. s };
 }
 
 pub multiplied_once : (xs : List Node) (i n m : ℕ) (t : ℤ) → t ≡ pos 1 → IsMultiplied xs xs i n m (of_ℤ t)
@@ -83,7 +83,7 @@ multiplied_once xs i n m t e = record {
   before = λ k l. refl;
   behind = λ k l. refl;
   others = λ a b ne. refl;
-  places = record { stays = λ n a b s. s; stood = λ n a b s. s };
+  cells = record { stays = λ n a b s. s; stood = λ n a b s. s };
 }
 
 module _ (old new : List Node) (i n m : ℕ) (times : ℚ) (h : IsMultiplied old new i n m times) where
@@ -101,10 +101,10 @@ module _ (old new : List Node) (i n m : ℕ) (times : ℚ) (h : IsMultiplied old
     before = h.before;
     behind = λ k u. h.behind k (omega arith);
     others = h.others;
-    places = h.places;
+    cells = h.cells;
   }
 
-  multiplied_put : (newer : List Node) (v : ℚ) → n ≤ m → v ≡ entry_at old i m *ℚ times → IsPut new newer i m v → KeepsPlaces new newer → IsMultiplied old newer i n (m + 1) times
+  multiplied_put : (newer : List Node) (v : ℚ) → n ≤ m → v ≡ entry_at old i m *ℚ times → IsPut new newer i m v → KeepsCells new newer → IsMultiplied old newer i n (m + 1) times
   multiplied_put newer v le e p t = record {
     here = λ k u l. elim (cases_Bool (k == m)) [
       | inl q ↦ (let same : k ≡ m = eqb-true k m q in ap (entry_at newer i) same ∙ p.here ∙ e ∙ ap (λ x. entry_at old i x *ℚ times) (sym same))
@@ -113,7 +113,7 @@ module _ (old new : List Node) (i n m : ℕ) (times : ℚ) (h : IsMultiplied old
     before = λ k l. p.others i k (λ _ z. absurd (omega arith)) ∙ h.before k l;
     behind = λ k l. p.others i k (λ _ z. absurd (omega arith)) ∙ h.behind k (omega arith);
     others = λ a b ne. p.others a b (λ z _. ne z) ∙ h.others a b ne;
-    places = record { stays = λ m a b u. t.stays m a b (h.places.stays m a b u); stood = λ m a b u. h.places.stood m a b (t.stood m a b u) };
+    cells = record { stays = λ m a b u. t.stays m a b (h.cells.stays m a b u); stood = λ m a b u. h.cells.stood m a b (t.stood m a b u) };
   }
 
 -- ---- the walk
@@ -130,7 +130,7 @@ products_skip old i n m l times gap h k u v = elim (cases_Bool (nat_lt k m)) [
 
 -- the column from which on nothing is multiplied yet, where `left` is the last node that is passed
 abbrev reach : List Node → ℕ → Option ℕ → ℕ
-reach xs n left = max n (place_after (by_rows xs) left)
+reach xs n left = max n (index_after (by_rows xs) left)
 
 -- what the loop keeps: `left` stands before column `limit`, and `next` is the node behind it
 pub record IsPassing (old new : List Node) (i n limit : ℕ) (times : ℚ) (small : Bool) (left next : Option ℕ) : Type 0 where
@@ -140,13 +140,13 @@ pub record IsPassing (old new : List Node) (i n limit : ℕ) (times : ℚ) (smal
 
 reach_first : (xs : List Node) (i n : ℕ) (o : Option ℕ) → StandsBefore (by_rows xs) i n o → reach xs n o ≤ n
 reach_first xs i n None s = omega arith
-reach_first xs i n (Some p) s = (let l = s.place in omega arith)
+reach_first xs i n (Some p) s = (let l = s.index in omega arith)
 
 stands_limit : (xs : List Node) (i n limit : ℕ) (o : Option ℕ) → n ≤ limit → StandsBefore (by_rows xs) i n o → StandsBefore (by_rows xs) i limit o
 stands_limit xs i n limit None le s = tt
-stands_limit xs i n limit (Some p) le s = (let l = s.place in record { live = s.live; line = s.line; place = omega arith })
+stands_limit xs i n limit (Some p) le s = (let l = s.index in record { live = s.live; line = s.line; index = omega arith })
 
-pub passing_start : (xs : List Node) (i n limit : ℕ) (times : ℚ) (small : Bool) (from next : Option ℕ) → n ≤ limit → StandsBefore (by_rows xs) i n from → IsFirst (by_rows xs) i (place_after (by_rows xs) from) next → IsPassing xs xs i n limit times small from next
+pub passing_start : (xs : List Node) (i n limit : ℕ) (times : ℚ) (small : Bool) (from next : Option ℕ) → n ≤ limit → StandsBefore (by_rows xs) i n from → IsFirst (by_rows xs) i (index_after (by_rows xs) from) next → IsPassing xs xs i n limit times small from next
 passing_start xs i n limit times small from next le s f =
     let r = reach_first xs i n from s in
     record {
@@ -160,11 +160,11 @@ module _ (old new : List Node) (i n limit : ℕ) (times : ℚ) (small : Bool) (l
   passing_stands = record { live = h.walk.next.0.live; row = h.walk.next.0.line; col = refl }
 
   -- the node is behind all that are passed
-  after : place_after (by_rows new) left ≤ col_at new node
-  after = h.walk.next.0.place
+  after : index_after (by_rows new) left ≤ col_at new node
+  after = h.walk.next.0.index
 
   gap : (k : ℕ) → reach new n left ≤ k → k < col_at new node → is_zero (entry_at new i k) ≡ true
-  gap k u l = gap_before new i (place_after (by_rows new) left) (Some node) h.walk.next k (omega arith) (λ m e. (let q : col_at new node ≡ col_at new m = cc in omega arith))
+  gap k u l = gap_before new i (index_after (by_rows new) left) (Some node) h.walk.next k (omega arith) (λ m e. (let q : col_at new node ≡ col_at new m = cc in omega arith))
 
   module _ (one : AreApart (by_rows new)) (inside : node < length new) where
     -- from column n on the number is what it was
@@ -199,7 +199,7 @@ module _ (old new : List Node) (i n limit : ℕ) (times : ℚ) (small : Bool) (l
             let skipped : IsMultiplied old new i n (col_at new node) times = multiplied_skip old new i n (reach new n left) times h.row (col_at new node) up gap in
             let product : item new node *ℚ times ≡ entry_at old i (col_at new node) *ℚ times = ap (λ x. x *ℚ times) (passing_entry le) in (
               subst (λ x. IsMultiplied old newer i n x times) (sym same)
-                  (multiplied_put old new i n (col_at new node) times skipped newer (item new node *ℚ times) le product p (places_put new newer node i (col_at new node) (item new node *ℚ times) p stays apart passing_stands)),
+                  (multiplied_put old new i n (col_at new node) times skipped newer (item new node *ℚ times) le product p (cells_put new newer node i (col_at new node) (item new node *ℚ times) p stays apart passing_stands)),
               λ t. subst (λ x. AreProducts old i n x times) (sym same) (λ k u v. elim (cases_Bool (k == col_at new node)) [
                 | inl q ↦ subst (λ x. IsWhole 41 (entry_at old i x *ℚ times)) (sym (eqb-true k (col_at new node) q)) (subst (IsWhole 41) product (here t le))
                 | inr q ↦
@@ -215,7 +215,7 @@ module _ (old new : List Node) (i n limit : ℕ) (times : ℚ) (small : Bool) (l
           let same : max n (col_at new node + 1) ≡ reach newer n (Some node) = ap (λ k. max n (k + 1)) (sym c) in
           record {
             walk = record {
-              stop = record { live = there.live; line = there.row; place = omega arith };
+              stop = record { live = there.live; line = there.row; index = omega arith };
               next = next_first (by_rows newer) lines head i node linked (there.live, there.row);
             };
             row = subst (λ x. IsMultiplied old newer i n x times) same written.0;
@@ -227,17 +227,17 @@ module _ (old new : List Node) (i n limit : ℕ) (times : ℚ) (small : Bool) (l
         where
           less : (o : Option ℕ) → IsFirst (by_rows newer) i (col_at newer node + 1) o → left_from (by_rows newer) width o < width - col_at new node
           less None f = omega arith
-          less (Some m) f = (let l = f.0.place in let c = there.col in omega arith)
+          less (Some m) f = (let l = f.0.index in let c = there.col in omega arith)
 
 -- where the next node stands from column `limit` on, or there is none
 module _ (old new : List Node) (i n limit : ℕ) (times : ℚ) (small : Bool) (left next : Option ℕ) (h : IsPassing old new i n limit times small left next)
     (le : n ≤ limit) (far : (m : ℕ) → next ≡ Some m → limit ≤ col_at new m) where
   rest : (k : ℕ) → reach new n left ≤ k → k < limit → is_zero (entry_at new i k) ≡ true
-  rest k u l = gap_before new i (place_after (by_rows new) left) next h.walk.next k (omega arith) (λ m e. (let f = far m e in omega arith))
+  rest k u l = gap_before new i (index_after (by_rows new) left) next h.walk.next k (omega arith) (λ m e. (let f = far m e in omega arith))
 
   reached : (o : Option ℕ) → StandsBefore (by_rows new) i limit o → reach new n o ≤ limit
   reached None s = omega arith
-  reached (Some p) s = (let l = s.place in omega arith)
+  reached (Some p) s = (let l = s.index in omega arith)
 
   pub passing_ends : IsMultiplied old new i n limit times
   passing_ends = multiplied_skip old new i n (reach new n left) times h.row limit (reached left h.walk.stop) rest

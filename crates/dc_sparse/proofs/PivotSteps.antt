@@ -10,7 +10,7 @@ use Rattle.dc_lp.proofs.Belows.{all_below-same}
 use Rattle.dc_start.specs.Changes.{step_fits}
 use Rattle.dc_sparse.specs.Rows.{row_fits, rows_fit, reduced_at, RowsAreReduced, gaps_in_rows}
 use Rattle.dc_sparse.specs.Pivots.{quotients_fit, entries_fit, ArePivoted}
-use Rattle.dc_lp.proofs.Counts.{count_places-same}
+use Rattle.dc_lp.proofs.Counts.{count_cells-same}
 use Rattle.dc_sparse.proofs.Quotients.{zero_by, quotient-nonzero}
 
 nothing_left : (y p i : ℚ) → p *ℚ i ≡ of_ℤ (pos 1) → y +ℚ neg_ℚ (y *ℚ (p *ℚ i)) ≡ of_ℤ (pos 0)
@@ -38,7 +38,7 @@ module _ (old mid : ℕ → ℕ → ℚ) (w h row col : ℕ) (lc : col < w) (nz 
   ]
 
   pub mid_gaps : gaps_in_rows mid w row col h ≡ gaps_in_rows old w row col h
-  mid_gaps = count_places-same _ _ h w (λ i k li lk. rw (zero_at i k lk, zero_at i col lc, zero_at row k lk) refl)
+  mid_gaps = count_cells-same _ _ h w (λ i k li lk. rw (zero_at i k lk, zero_at i col lc, zero_at row k lk) refl)
 
   -- what must fit in row i, by what stands in old
   abbrev fits_row : ℕ → Bool

@@ -11,7 +11,7 @@ use Rattle.dc_start.proofs.Changes.{quotient-zero}
 use Rattle.dc_sparse.specs.declared.web.Node.{Node}
 use Rattle.dc_sparse.specs.Lines.{AreApart, AreLinked, IsFirst}
 use Rattle.dc_sparse.specs.Nodes.{col_at, item, right_at, by_rows}
-use Rattle.dc_sparse.specs.Entries.{entry_at, StandsAt, IsPut, KeepsPlaces}
+use Rattle.dc_sparse.specs.Entries.{entry_at, StandsAt, IsPut, KeepsCells}
 use Rattle.dc_sparse.specs.Rows.{divisions_fit, AreDivided, KeepsRows}
 use Rattle.dc_sparse.proofs.Links.{next_first}
 use Rattle.dc_sparse.proofs.Entries.{entry-node, item-live}
@@ -39,7 +39,7 @@ pub record IsDividing (old new : List Node) (i : ℕ) (by : ℚ) (n : ℕ) : Typ
   pub divided : AreDivided old new i by n
   pub later : (k : ℕ) → n ≤ k → entry_at new i k ≡ entry_at old i k
   pub rows : KeepsRows old new i
-  pub places : KeepsPlaces old new
+  pub cells : KeepsCells old new
 
 pub dividing_start : (xs : List Node) (i : ℕ) (by : ℚ) → IsDividing xs xs i by 0
 unfolding divisions_fit
@@ -48,12 +48,12 @@ dividing_start xs i by = record {
   divided = λ k lt. absurd (omega arith);
   later = λ k le. refl;
   rows = record { entries = λ a b ne. refl; stays = λ n a b ne s. s; stood = λ n a b ne s. s };
-  places = record { stays = λ n a b s. s; stood = λ n a b s. s };
+  cells = record { stays = λ n a b s. s; stood = λ n a b s. s };
 }
 
--- a node that gets another value keeps its place, and so do all others
-pub places_put : (xs ys : List Node) (node i k : ℕ) (v : ℚ) → IsPut xs ys i k v → ((n a b : ℕ) → StandsAt xs n a b → StandsAt ys n a b) → AreApart (by_rows ys) → StandsAt xs node i k → KeepsPlaces xs ys
-places_put xs ys node i k v p stays one s = record {
+-- a node that gets another value keeps its cell, and so do all others
+pub cells_put : (xs ys : List Node) (node i k : ℕ) (v : ℚ) → IsPut xs ys i k v → ((n a b : ℕ) → StandsAt xs n a b → StandsAt ys n a b) → AreApart (by_rows ys) → StandsAt xs node i k → KeepsCells xs ys
+cells_put xs ys node i k v p stays one s = record {
   stays = stays;
   stood = λ m a b t. elim (cases_Bool (a == i)) [
     | inl q ↦ elim (cases_Bool (b == k)) [
@@ -82,10 +82,10 @@ module _ (old new : List Node) (i : ℕ) (by : ℚ) (n : ℕ) (h : IsDividing ol
         ];
         later = λ k l. h.later k (omega arith);
         rows = h.rows;
-        places = h.places;
+        cells = h.cells;
       }
 
-  pub dividing_put : (newer : List Node) (v : ℚ) → quotient_fits (entry_at old i n) by ≡ true → v ≡ entry_at old i n /ℚ by → IsPut new newer i n v → KeepsPlaces new newer → IsDividing old newer i by (n + 1)
+  pub dividing_put : (newer : List Node) (v : ℚ) → quotient_fits (entry_at old i n) by ≡ true → v ≡ entry_at old i n /ℚ by → IsPut new newer i n v → KeepsCells new newer → IsDividing old newer i by (n + 1)
   unfolding divisions_fit
   dividing_put newer v f e p t = record {
     fit = rw (add-one, h.fit, f) refl;
@@ -99,7 +99,7 @@ module _ (old new : List Node) (i : ℕ) (by : ℚ) (n : ℕ) (h : IsDividing ol
       stays = λ m a b ne t. p.stays m a b (λ z _. ne z) (h.rows.stays m a b ne t);
       stood = λ m a b ne t. h.rows.stood m a b ne (p.stood m a b (λ z _. ne z) t);
     };
-    places = record { stays = λ m a b u. t.stays m a b (h.places.stays m a b u); stood = λ m a b u. h.places.stood m a b (t.stood m a b u) };
+    cells = record { stays = λ m a b u. t.stays m a b (h.cells.stays m a b u); stood = λ m a b u. h.cells.stood m a b (t.stood m a b u) };
   }
 
   pub dividing_fails : (w : ℕ) → n < w → quotient_fits (entry_at old i n) by ≡ false → divisions_fit old i by w ≡ false
@@ -112,7 +112,7 @@ pub record IsAcross (old new : List Node) (i : ℕ) (by : ℚ) (done : ℕ) (to 
 
 module _ (old new : List Node) (i : ℕ) (by : ℚ) (done node : ℕ) (h : IsAcross old new i by done (Some node)) (one : AreApart (by_rows new)) (inside : node < length new) where
   pub across_at : IsDividing old new i by (col_at new node)
-  across_at = dividing_skip old new i by done h.row (col_at new node) h.next.0.place
+  across_at = dividing_skip old new i by done h.row (col_at new node) h.next.0.index
       (λ k le lt. gap_before new i done (Some node) h.next k le (λ m e. (let q : col_at new node ≡ col_at new m = cc in omega arith)))
 
   pub across_stands : StandsAt new node i (col_at new node)
@@ -133,7 +133,7 @@ module _ (old new : List Node) (i : ℕ) (by : ℚ) (done node : ℕ) (h : IsAcr
   across_step newer v lines head f e p stays apart linked =
       let t : StandsAt newer node i (col_at new node) = stays node i (col_at new node) across_stands in
       record {
-        row = dividing_put old new i by (col_at new node) across_at newer v (rw (← across_entry) f) (rw (← across_entry) e) p (places_put new newer node i (col_at new node) v p stays apart across_stands);
+        row = dividing_put old new i by (col_at new node) across_at newer v (rw (← across_entry) f) (rw (← across_entry) e) p (cells_put new newer node i (col_at new node) v p stays apart across_stands);
         next = subst (λ k. IsFirst (by_rows newer) i (k + 1) (right_at newer node)) t.col (next_first (by_rows newer) lines head i node linked (t.live, t.row));
       }
 

@@ -72,7 +72,7 @@ module _ (t : Table ℚ) (real : ℕ) (basis : List ℕ) (xs : List Node) (j : �
 
   module _ (done node : ℕ) (best : Option Candidate) (b : IsBestOf t j done best) (f : IsFirst (by_columns xs) j done (Some node)) (inside : node < length xs) (apart : AreApart (by_rows xs)) (lower : row_at xs node < length basis) where
     here : IsBestOf t j (row_at xs node) best
-    here = seek_on done (row_at xs node) best (Some node) b f f.0.place (omega arith) (λ c e. (let q : row_at xs node ≡ row_at xs c = cc in omega arith))
+    here = seek_on done (row_at xs node) best (Some node) b f f.0.index (omega arith) (λ c e. (let q : row_at xs node ≡ row_at xs c = cc in omega arith))
 
     -- what the node holds
     seek_entry : entry_at xs (row_at xs node) j ≡ item xs node

@@ -9,7 +9,7 @@ use Rattle.dc_sparse.specs.Lines.{IsLast, AreApart, link_after}
 use Rattle.dc_sparse.specs.Nodes.{link, row_at, col_at, item, right_at, down_at, head_at, is_live, by_rows, by_columns, IsRelinkedRight, IsRelinkedDown, AreReheaded}
 use Rattle.dc_sparse.specs.Webs.{IsFree, IsTop, IsFreeList, AreWithin, IsWoven, IsCleared}
 use Rattle.dc_sparse.proofs.Lines.{StandAs, IsRemoved, removed, apart_less}
-use Rattle.dc_sparse.proofs.Cells.{IsWritten, at_same, at_other, item_live}
+use Rattle.dc_sparse.proofs.SingleWrites.{IsWritten, at_same, at_other, item_live}
 use Rattle.dc_sparse.proofs.FreeCounts.{free_count-less}
 use Rattle.dc_sparse.proofs.Inserts.{relinked_other, last_live}
 
@@ -49,14 +49,14 @@ module _ (xs ws ys zs : List Node) (rh rh' ch ch' : List (Option ℕ)) (free : O
   not_left : (p : ℕ) → left ≡ Some p → n ≢ p
   not_left p e q =
       let l : IsLast (by_rows xs) (row_at xs n) (col_at xs n) (Some p) = subst (IsLast (by_rows xs) (row_at xs n) (col_at xs n)) e last_left in
-      let f = l.0.place in
+      let f = l.0.index in
       let g : col_at xs n ≡ col_at xs p = ap (col_at xs) q in
       omega arith
 
   not_above : (p : ℕ) → above ≡ Some p → n ≢ p
   not_above p e q =
       let l : IsLast (by_columns xs) (col_at xs n) (row_at xs n) (Some p) = subst (IsLast (by_columns xs) (col_at xs n) (row_at xs n)) e last_above in
-      let f = l.0.place in
+      let f = l.0.index in
       let g : row_at xs n ≡ row_at xs p = ap (row_at xs) q in
       omega arith
 
@@ -70,16 +70,16 @@ module _ (xs ws ys zs : List Node) (rh rh' ch ch' : List (Option ℕ)) (free : O
   down_other a ne = d.down a ∙ ap (link_after above (down_at xs n) a) (r.down a ∙ w.down a ∙ at_other a n _ _ ne)
 
   rows_stand : StandAs (by_rows xs) (by_rows zs) n
-  rows_stand = record { live = live_other; line = cleared.others.row; place = cleared.others.col }
+  rows_stand = record { live = live_other; line = cleared.others.row; index = cleared.others.col }
 
   columns_stand : StandAs (by_columns xs) (by_columns zs) n
-  columns_stand = record { live = live_other; line = cleared.others.col; place = cleared.others.row }
+  columns_stand = record { live = live_other; line = cleared.others.col; index = cleared.others.row }
 
   rows_out : IsRemoved (by_rows xs) (by_rows zs) (head_at rh) (head_at rh') n (row_at xs n) (col_at xs n) left
-  rows_out = record { others = rows_stand; live = live; line = refl; place = refl; dead = dead_now; nexts = right_other; heads = hr.heads }
+  rows_out = record { others = rows_stand; live = live; line = refl; index = refl; dead = dead_now; nexts = right_other; heads = hr.heads }
 
   columns_out : IsRemoved (by_columns xs) (by_columns zs) (head_at ch) (head_at ch') n (col_at xs n) (row_at xs n) above
-  columns_out = record { others = columns_stand; live = live; line = refl; place = refl; dead = dead_now; nexts = down_other; heads = hc.heads }
+  columns_out = record { others = columns_stand; live = live; line = refl; index = refl; dead = dead_now; nexts = down_other; heads = hc.heads }
 
   columns_apart : AreApart (by_columns xs)
   columns_apart a b la lb e f = woven.apart a b la lb f e

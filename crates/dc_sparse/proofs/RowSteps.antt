@@ -126,10 +126,11 @@ pub gap_before : (xs : List Node) (i n : ℕ) (o : Option ℕ) → IsFirst (by_r
 gap_before xs i n o f k le lt = ap is_zero (entry-vacant xs i k (vacant o f lt)) ∙ eq_ℚ-true (of_ℤ (pos 0)) (of_ℤ (pos 0)) refl
   where
     vacant : (o : Option ℕ) → IsFirst (by_rows xs) i n o → ((m : ℕ) → o ≡ Some m → k < col_at xs m) → IsVacant xs i k
-    vacant None f lt c lc e q = f c (record { live = lc; line = e; place = omega arith })
-    vacant (Some m) f lt c lc e q = (let w = f.1 c (record { live = lc; line = e; place = omega arith }) in let l = lt m refl in omega arith)
+    vacant None f lt c lc e q = f c (record { live = lc; line = e; index = omega arith })
+    vacant (Some m) f lt c lc e q = (let w = f.1 c (record { live = lc; line = e; index = omega arith }) in let l = lt m refl in omega arith)
 
--- what the loop along row `pivot` keeps: the columns before `done` are reduced, `source` is the next node, `left` stands before it in row i
+-- what the loop along row `pivot` keeps: the columns before `done` are reduced, `source` is the
+-- next node, `left` stands before it in row i
 pub record IsAlong (old new : List Node) (i pivot col : ℕ) (factor : ℚ) (was now done : ℕ) (source left : Option ℕ) : Type 0 where
   pub row : IsReducing old new i pivot col factor was now done
   pub next : IsFirst (by_rows new) pivot done source
@@ -137,22 +138,22 @@ pub record IsAlong (old new : List Node) (i pivot col : ℕ) (factor : ℚ) (was
 
 pub stop_later : (xs : List Node) (i k m : ℕ) (o : Option ℕ) → k ≤ m → StandsBefore (by_rows xs) i k o → StandsBefore (by_rows xs) i m o
 stop_later xs i k m None le s = tt
-stop_later xs i k m (Some p) le s = (let l = s.place in record { live = s.live; line = s.line; place = omega arith })
+stop_later xs i k m (Some p) le s = (let l = s.index in record { live = s.live; line = s.line; index = omega arith })
 
--- the node before a place stands before the next one, after the entry there is put
+-- the node before an index stands before the next one, after the entry there is put
 pub stop_put : (xs ys : List Node) (i k : ℕ) (v : ℚ) (o : Option ℕ) → IsPut xs ys i k v → IsLast (by_rows xs) i k o → StandsBefore (by_rows ys) i (k + 1) o
 stop_put xs ys i k v None p l = tt
 stop_put xs ys i k v (Some q) p l =
-    let b = l.0.place in
+    let b = l.0.index in
     let s = p.stays q i (col_at xs q) (λ _ e. absurd (omega arith)) (record { live = l.0.live; row = l.0.line; col = refl }) in
     let c = s.col in
-    record { live = s.live; line = s.row; place = omega arith }
+    record { live = s.live; line = s.row; index = omega arith }
 
 module _ (old new : List Node) (i pivot col : ℕ) (factor : ℚ) (was now done : ℕ) (node : ℕ) (left : Option ℕ) (h : IsAlong old new i pivot col factor was now done (Some node) left)
     (apart : pivot ≢ i) (pivot_entry : is_zero (entry_at old pivot col) ≡ false) where
   -- up to the next node of row `pivot` nothing has to be done
   pub along_at : IsReducing old new i pivot col factor was now (col_at new node)
-  along_at = reducing_skip old new i pivot col factor was now done h.row pivot_entry (col_at new node) h.next.0.place
+  along_at = reducing_skip old new i pivot col factor was now done h.row pivot_entry (col_at new node) h.next.0.index
       (λ k le lt. ap is_zero (sym (h.row.rows.entries pivot k apart)) ∙ gap_before new pivot done (Some node) h.next k le (λ m e. (let q : col_at new node ≡ col_at new m = cc in omega arith)))
 
   pub along_stands : StandsAt new node pivot (col_at new node)
@@ -190,7 +191,7 @@ module _ (old new : List Node) (i pivot col : ℕ) (factor : ℚ) (was now done 
         }
 
     pub along_stop : StandsBefore (by_rows new) i (col_at new node) left
-    along_stop = stop_later new i done (col_at new node) left h.next.0.place h.stop
+    along_stop = stop_later new i done (col_at new node) left h.next.0.index h.stop
 
 pub along_end : (old new : List Node) (i pivot col : ℕ) (factor : ℚ) (was now done w : ℕ) (left : Option ℕ) → IsAlong old new i pivot col factor was now done None left → pivot ≢ i → is_zero (entry_at old pivot col) ≡ false → done ≤ w → IsReducing old new i pivot col factor was now w
 along_end old new i pivot col factor was now done w left h apart pivot_entry le =
@@ -231,7 +232,7 @@ counting_skip xs i pivot m n o f le lt = count_below-none _ m n le (λ k l u. rw
     and_false' false = refl
 
 pub counting_stop : (xs : List Node) (i pivot count done node : ℕ) (left : Option ℕ) → IsCounting xs i pivot count done (Some node) left → StandsBefore (by_rows xs) i (col_at xs node) left
-counting_stop xs i pivot count done node left h = stop_later xs i done (col_at xs node) left h.next.0.place h.stop
+counting_stop xs i pivot count done node left h = stop_later xs i done (col_at xs node) left h.next.0.index h.stop
 
 pub counting_step : (xs : List Node) (i pivot count done node : ℕ) (left before : Option ℕ) (lines : ℕ) (head : ℕ → Option ℕ) → IsCounting xs i pivot count done (Some node) left → AreApart (by_rows xs) → node < length xs → AreLinked (by_rows xs) lines head
     → IsLast (by_rows xs) i (col_at xs node) before → IsCounting xs i pivot (count + cond (is_zero (entry_at xs i (col_at xs node))) 1 0) (col_at xs node + 1) (right_at xs node) before
@@ -239,7 +240,7 @@ unfolding row_gaps
 counting_step xs i pivot count done node left before lines head h one inside linked last =
     let at : StandsAt xs node pivot (col_at xs node) = record { live = h.next.0.live; row = h.next.0.line; col = refl } in
     let nz : is_zero (entry_at xs pivot (col_at xs node)) ≡ false = ap is_zero (entry-node xs node pivot (col_at xs node) inside one at) ∙ item-live xs node h.next.0.live in
-    let s : row_gaps xs i pivot (col_at xs node) ≡ row_gaps xs i pivot done = counting_skip xs i pivot done (col_at xs node) (Some node) h.next h.next.0.place (λ c e. (let q : col_at xs node ≡ col_at xs c = cc in omega arith)) in
+    let s : row_gaps xs i pivot (col_at xs node) ≡ row_gaps xs i pivot done = counting_skip xs i pivot done (col_at xs node) (Some node) h.next h.next.0.index (λ c e. (let q : col_at xs node ≡ col_at xs c = cc in omega arith)) in
     let c = h.counted in
     record {
       counted = rw (add-one, nz) (let t = here (is_zero (entry_at xs i (col_at xs node))) in omega arith);
@@ -253,7 +254,7 @@ counting_step xs i pivot count done node left before lines head h one inside lin
 
     stop_more : (xs : List Node) (i k : ℕ) (o : Option ℕ) → IsLast (by_rows xs) i k o → StandsBefore (by_rows xs) i (k + 1) o
     stop_more xs i k None l = tt
-    stop_more xs i k (Some p) l = (let b = l.0.place in record { live = l.0.live; line = l.0.line; place = omega arith })
+    stop_more xs i k (Some p) l = (let b = l.0.index in record { live = l.0.live; line = l.0.line; index = omega arith })
 
 pub counting_end : (xs : List Node) (i pivot count done w : ℕ) (left : Option ℕ) → IsCounting xs i pivot count done None left → done ≤ w → count ≡ row_gaps xs i pivot w
 counting_end xs i pivot count done w left h le = h.counted ∙ sym (counting_skip xs i pivot done w None h.next le (λ c e. absurd (let r : ⊥ = cc in r)))
@@ -286,7 +287,7 @@ unfolding entries_in
 entries_step xs i done node f one inside =
     let at : StandsAt xs node i (col_at xs node) = record { live = f.0.live; row = f.0.line; col = refl } in
     let nz : is_zero (entry_at xs i (col_at xs node)) ≡ false = ap is_zero (entry-node xs node i (col_at xs node) inside one at) ∙ item-live xs node f.0.live in
-    let s : entries_in (entry_at xs i) (col_at xs node) ≡ entries_in (entry_at xs i) done = entries_skip xs i done (col_at xs node) (Some node) f f.0.place (λ c e. (let q : col_at xs node ≡ col_at xs c = cc in omega arith)) in
+    let s : entries_in (entry_at xs i) (col_at xs node) ≡ entries_in (entry_at xs i) done = entries_skip xs i done (col_at xs node) (Some node) f f.0.index (λ c e. (let q : col_at xs node ≡ col_at xs c = cc in omega arith)) in
     rw (add-one, nz) (omega arith)
 
 pub entries_end : (xs : List Node) (i done w : ℕ) → IsFirst (by_rows xs) i done None → done ≤ w → entries_in (entry_at xs i) done ≡ entries_in (entry_at xs i) w

@@ -11,7 +11,7 @@ use Rattle.dc_lp.specs.Meanings.{Meaning, resting, start, at}
 use Rattle.dc_start.proofs.Loads.{made-length}
 use Rattle.dc_sparse.specs.declared.web.Node.{Node}
 use Rattle.dc_sparse.specs.Entries.{entry_at, StandsAt}
-use Rattle.dc_lp.specs.Fill.{count_places, entry_count}
+use Rattle.dc_lp.specs.Fill.{count_cells, entry_count}
 use Rattle.dc_sparse.specs.Sizes.{held_count}
 use Rattle.dc_sparse.specs.Pivots.{grid}
 use Rattle.dc_start.specs.Starts.{width, start_value}
@@ -19,7 +19,7 @@ use Rattle.dc_lp.specs.Problems.{columns}
 use Rattle.dc_sparse.specs.Fills.{IsFilled, IsFilling, IsPartOf, IsStarted}
 use Rattle.dc_sparse.proofs.Tables.{made-same}
 use Rattle.dc_sparse.proofs.Entries.{vacant-zero}
-use Rattle.dc_lp.proofs.Counts.{count_places-least}
+use Rattle.dc_lp.proofs.Counts.{count_cells-least}
 
 grid-start : (p : Problem) (e : ℕ → ℕ → ℚ) → IsStarted p e → grid (p.rows + 2) (width p) e ≡ (start p).rows
 unfolding grid tables.start
@@ -86,8 +86,8 @@ module _ (p : Problem) where
   unfolding held_count entry_count
   part-entries xs f =
       let some : ℕ → ℕ → Bool = λ i k. not (tests.is_zero (at (start p) i k)) in
-      let l : count_places (p.rows + 2) (width p) (λ i k. not (tests.is_zero (entry_at xs i k))) ≤ count_places (p.rows + 2) (width p) some =
-      count_places-least (λ i k. not (tests.is_zero (entry_at xs i k))) some (p.rows + 2) (width p)
+      let l : count_cells (p.rows + 2) (width p) (λ i k. not (tests.is_zero (entry_at xs i k))) ≤ count_cells (p.rows + 2) (width p) some =
+      count_cells-least (λ i k. not (tests.is_zero (entry_at xs i k))) some (p.rows + 2) (width p)
       (λ i k li lk e. ap not (ap tests.is_zero (start-at i k li lk) ∙ f.each i k li lk (not_true (tests.is_zero (entry_at xs i k)) e))) in
-      subst (λ n. count_places (p.rows + 2) (width p) (λ i k. not (tests.is_zero (entry_at xs i k))) ≤ count_places n ((start p).real + length (start p).basis + 1) some) (sym start-tall)
-      (subst (λ n. count_places (p.rows + 2) (width p) (λ i k. not (tests.is_zero (entry_at xs i k))) ≤ count_places (p.rows + 2) n some) (sym start-wide) l)
+      subst (λ n. count_cells (p.rows + 2) (width p) (λ i k. not (tests.is_zero (entry_at xs i k))) ≤ count_cells n ((start p).real + length (start p).basis + 1) some) (sym start-tall)
+      (subst (λ n. count_cells (p.rows + 2) (width p) (λ i k. not (tests.is_zero (entry_at xs i k))) ≤ count_cells (p.rows + 2) n some) (sym start-wide) l)

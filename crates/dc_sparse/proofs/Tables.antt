@@ -14,11 +14,11 @@ use Rattle.dc_sparse.specs.declared.web.Node.{Node}
 use Rattle.dc_sparse.specs.Entries.{entry_at}
 use Rattle.dc_start.specs.Changes.{step_fits}
 use Rattle.dc_sparse.specs.Rows.{rows_gaps, gaps_in_rows, IsFirstNegative}
-use Rattle.dc_lp.specs.Fill.{gaps, meets_gap, count_places, entry_count}
+use Rattle.dc_lp.specs.Fill.{gaps, meets_gap, count_cells, entry_count}
 use Rattle.dc_sparse.specs.Sizes.{held_count}
 use Rattle.dc_sparse.specs.Pivots.{grid, entries_fit, pivoted_at, ArePivoted}
 use Rattle.dc_lp.proofs.Firsts.{none-index, some-index}
-use Rattle.dc_lp.proofs.Counts.{count_places-same}
+use Rattle.dc_lp.proofs.Counts.{count_cells-same}
 
 pub grid-at : (h w : ℕ) (e : ℕ → ℕ → ℚ) (i k : ℕ) → i < h → k < w → slice_index_or (slice_index_or (grid h w e) i []) k (of_ℤ (pos 0)) ≡ e i k
 unfolding grid
@@ -44,9 +44,9 @@ module _ (real h w : ℕ) (basis : List ℕ) (e : ℕ → ℕ → ℚ) (tall : h
   pub entries-grid : (xs : List Node) → ((i k : ℕ) → tests.is_zero (e i k) ≡ tests.is_zero (entry_at xs i k)) → entry_count table ≡ held_count xs h w
   unfolding entry_count held_count
   entries-grid xs same =
-      ap (λ x. count_places x (real + length basis + 1) (λ i k. not (tests.is_zero (at table i k)))) (sym tall)
-      ∙ ap (λ x. count_places h x (λ i k. not (tests.is_zero (at table i k)))) (sym wide)
-      ∙ count_places-same (λ i k. not (tests.is_zero (at table i k))) (λ i k. not (tests.is_zero (entry_at xs i k))) h w
+      ap (λ x. count_cells x (real + length basis + 1) (λ i k. not (tests.is_zero (at table i k)))) (sym tall)
+      ∙ ap (λ x. count_cells h x (λ i k. not (tests.is_zero (at table i k)))) (sym wide)
+      ∙ count_cells-same (λ i k. not (tests.is_zero (at table i k))) (λ i k. not (tests.is_zero (entry_at xs i k))) h w
       (λ i k li lk. ap not (ap tests.is_zero (table-at i k li lk) ∙ same i k))
 
   module _ (r j : ℕ) (lr : r < h) (lj : j < w) where
@@ -79,16 +79,16 @@ module _ (real h w : ℕ) (basis : List ℕ) (e : ℕ → ℕ → ℚ) (tall : h
         ∙ all_below-same w _ _ (λ k lk. ap₂ quotient_fits (table-at r k lr lk) (table-at r j lr lj))
 
     -- one column of another row
-    abbrev place_fits : ℚ → ℚ → ℚ → ℕ → Bool
-    place_fits factor x y k = k == j || step_fits factor x y
+    abbrev cell_fits : ℚ → ℚ → ℚ → ℕ → Bool
+    cell_fits factor x y k = k == j || step_fits factor x y
 
     step-grid : (i k : ℕ) → i < h → k < w → (k == j || tests.is_zero (divided table r j k) || product_fits (at table i j) (divided table r j k) && difference_fits (at table i k) (at table i j *ℚ divided table r j k))
-        ≡ place_fits (e i j) (e r k /ℚ e r j) (e i k) k
+        ≡ cell_fits (e i j) (e r k /ℚ e r j) (e i k) k
     step-grid i k li lk =
         sym (or_assoc (k == j) (tests.is_zero (divided table r j k)) (product_fits (at table i j) (divided table r j k) && difference_fits (at table i k) (at table i j *ℚ divided table r j k)))
-        ∙ ap (λ x. place_fits (at table i j) x (at table i k) k) (divided-at k lk)
-        ∙ ap (λ x. place_fits x (e r k /ℚ e r j) (at table i k) k) (table-at i j li lj)
-        ∙ ap (λ x. place_fits (e i j) (e r k /ℚ e r j) x k) (table-at i k li lk)
+        ∙ ap (λ x. cell_fits (at table i j) x (at table i k) k) (divided-at k lk)
+        ∙ ap (λ x. cell_fits x (e r k /ℚ e r j) (at table i k) k) (table-at i j li lj)
+        ∙ ap (λ x. cell_fits (e i j) (e r k /ℚ e r j) x k) (table-at i k li lk)
 
     row-grid : (i : ℕ) → i < h → (i == r || reduction_fits table r j i) ≡ (i == r || tests.is_zero (e i j) || all_below w (λ k. k == j || step_fits (e i j) (e r k /ℚ e r j) (e i k)))
     unfolding reduction_fits
@@ -108,14 +108,14 @@ module _ (real h w : ℕ) (basis : List ℕ) (e : ℕ → ℕ → ℚ) (tall : h
     pub gaps-held : gaps table r j ≡ gaps_in_rows e w r j h
     unfolding gaps
     gaps-held =
-        ap (λ x. count_places x (real + length basis + 1) (meets_gap table r j)) (sym tall)
-        ∙ ap (λ x. count_places h x (meets_gap table r j)) (sym wide)
-        ∙ count_places-same (meets_gap table r j) _ h w (λ i k li lk. rw (zero-at i k li lk, zero-at i j li lj, zero-at r k lr lk) refl)
+        ap (λ x. count_cells x (real + length basis + 1) (meets_gap table r j)) (sym tall)
+        ∙ ap (λ x. count_cells h x (meets_gap table r j)) (sym wide)
+        ∙ count_cells-same (meets_gap table r j) _ h w (λ i k li lk. rw (zero-at i k li lk, zero-at i j li lj, zero-at r k lr lk) refl)
 
     -- it is what the arena has to have free
     pub gaps-grid : (xs : List Node) → ((i k : ℕ) → tests.is_zero (e i k) ≡ tests.is_zero (entry_at xs i k)) → gaps table r j ≡ rows_gaps xs w r j h
     unfolding rows_gaps
-    gaps-grid xs same = gaps-held ∙ count_places-same _ _ h w (λ i k li lk. rw (same i k, same i j, same r k) refl)
+    gaps-grid xs same = gaps-held ∙ count_cells-same _ _ h w (λ i k li lk. rw (same i k, same i j, same r k) refl)
 
 pub pivoted-meaning : (loaded broken : Bool) (real h w : ℕ) (basis : List ℕ) (e f : ℕ → ℕ → ℚ) (r j : ℕ) → loaded ≡ true → broken ≡ false
     → grid h w f ≡ (pivoted (record { real = real; rows = grid h w e; basis = basis }) r j).rows

@@ -9,7 +9,7 @@ use Rattle.dc_lp.proofs.Belows.{all_below-same}
 use Rattle.dc_start.specs.Changes.{step_fits}
 use Rattle.dc_sparse.specs.declared.web.Node.{Node}
 use Rattle.dc_sparse.specs.declared.scaled.Scaled.{Scaled}
-use Rattle.dc_sparse.specs.Entries.{entry_at, KeepsPlaces}
+use Rattle.dc_sparse.specs.Entries.{entry_at, KeepsCells}
 use Rattle.dc_sparse.specs.Rows.{reductions_fit, row_gaps, entry_after, steps_fit, stepped_at, gaps_in_row, divisions_fit, KeepsRows}
 use Rattle.dc_sparse.specs.Pivots.{quotients_fit}
 use Rattle.dc_sparse.specs.Scales.{scale_at, den_of, scaled_at}
@@ -39,11 +39,11 @@ module _ (s : Scaled) (row col : ℕ) (nz : is_zero (held_at s row col) ≡ fals
   divided-held by k e = ap (λ x. entry_at s.web.nodes.items row k /ℚ x) e ∙ sym (held_quotient k)
 
 -- a row whose denominator stays
-pub others_kept : (s t : Scaled) (i : ℕ) → t.dens.items ≡ s.dens.items → KeepsRows s.web.nodes.items t.web.nodes.items i → KeepsPlaces s.web.nodes.items t.web.nodes.items → KeepsSizes s.web t.web → KeepsOthers s t i
-others_kept s t i e rows places sizes = record {
+pub others_kept : (s t : Scaled) (i : ℕ) → t.dens.items ≡ s.dens.items → KeepsRows s.web.nodes.items t.web.nodes.items i → KeepsCells s.web.nodes.items t.web.nodes.items → KeepsSizes s.web t.web → KeepsOthers s t i
+others_kept s t i e rows cells sizes = record {
   entries = λ a b ne. held-kept s t a b (ap (λ ds. scale_at ds a) e) (rows.entries a b ne);
   scales = λ a ne. ap (λ ds. scale_at ds a) e;
-  places = places;
+  cells = cells;
   sizes = sizes;
 }
 

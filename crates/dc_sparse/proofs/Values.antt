@@ -8,7 +8,7 @@ use Rattle.dc_sparse.specs.Nodes.{row_at, item, right_at, head_at, is_live, by_r
 use Rattle.dc_sparse.specs.Webs.{IsFree, IsTop, IsWoven}
 use Rattle.dc_sparse.specs.Entries.{StandsAt, IsPut}
 use Rattle.dc_sparse.proofs.Lines.{SameLines, linked_same, apart_same}
-use Rattle.dc_sparse.proofs.Cells.{IsRevalued, at_same, at_other}
+use Rattle.dc_sparse.proofs.SingleWrites.{IsRevalued, at_same, at_other}
 use Rattle.dc_sparse.proofs.FreeCounts.{free_count-same}
 use Rattle.dc_sparse.proofs.Entries.{put_by, entry-node}
 
@@ -24,10 +24,10 @@ module _ (xs ys : List Node) (rh ch : List (Option ℕ)) (free : Option ℕ) (sp
   ]
 
   rows_same : SameLines (by_rows xs) (by_rows ys)
-  rows_same = record { live = live_same; line = h.row; place = h.col; next = h.right }
+  rows_same = record { live = live_same; line = h.row; index = h.col; next = h.right }
 
   columns_same : SameLines (by_columns xs) (by_columns ys)
-  columns_same = record { live = live_same; line = h.col; place = h.row; next = h.down }
+  columns_same = record { live = live_same; line = h.col; index = h.row; next = h.down }
 
   free_new : (a : ℕ) → IsFree xs a → IsFree ys a
   free_new a f = (let l = h.long in let i = f.inside in record { inside = omega arith; dead = live_same a ∙ f.dead })

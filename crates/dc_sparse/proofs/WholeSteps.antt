@@ -1,4 +1,5 @@
--- A row of whole numbers from which a multiple of the pivot's row is taken: the same step of the entries.
+-- A row of whole numbers from which a multiple of the pivot's row is taken: the same step of the
+-- entries.
 use Rattle.std.proofs.Common.{◌≡◌, ℕ, ◌<◌, ◌≤◌, ◌^◌, true, false, ◌||◌, ◌==◌, nat_lt, pos, unsigned_abs, [], ◌∷◌, length, Some, refl, sym, ◌∙◌, ap, subst, arith, inl, inr}
 use Rattle.std.proofs.lemmas.Bool.{cases_Bool, ltb-true, ltb-false}
 use Rattle.dc_math.specs.Rational.{ℚ, Fraction, of_ℤ, neg_ℚ, ◌-ℚ◌, ◌*ℚ◌}

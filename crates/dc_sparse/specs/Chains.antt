@@ -12,12 +12,12 @@ IsChain next None (x ∷ xs) = ⊥
 IsChain next (Some a) [] = ⊥
 IsChain next (Some a) (x ∷ xs) = (a ≡ x) × IsChain next (next a) xs
 
--- nodes of line i at rising places, from place k on
+-- nodes of line i at rising indices, from index k on
 abbrev pub RiseFrom : Lines → ℕ → ℕ → List ℕ → Type 0
 RiseFrom s i k [] = Unit {0}
-RiseFrom s i k (x ∷ xs) = IsFrom s i k x × RiseFrom s i (suc (s.place x)) xs
+RiseFrom s i k (x ∷ xs) = IsFrom s i k x × RiseFrom s i (suc (s.index x)) xs
 
--- the list of line i: linked from its head, all nodes of the line and no others, by rising place
+-- the list of line i: linked from its head, all nodes of the line and no others, by rising index
 -- (so each stands there once)
 pub record IsListOf (s : Lines) (head : Option ℕ) (i : ℕ) (xs : List ℕ) : Type 0 where
   pub chain : IsChain s.next head xs

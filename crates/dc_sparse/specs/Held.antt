@@ -8,7 +8,7 @@ use Rattle.dc_sparse.specs.Pivots.{grid}
 use Rattle.dc_sparse.specs.declared.web.Node.{Node}
 use Rattle.dc_sparse.specs.declared.web.Web.{Web}
 use Rattle.dc_sparse.specs.declared.scaled.Scaled.{Scaled}
-use Rattle.dc_sparse.specs.Entries.{entry_at, StandsAt, KeepsPlaces}
+use Rattle.dc_sparse.specs.Entries.{entry_at, StandsAt, KeepsCells}
 use Rattle.dc_sparse.specs.Scales.{scale_at, scaled_at}
 use Rattle.dc_math.specs.Inverse.{◌/ℚ◌}
 
@@ -55,7 +55,7 @@ pub record KeepsSizes (old new : Web) : Type 0 where
 pub record KeepsOthers (old new : Scaled) (i : ℕ) : Type 0 where
   pub entries : (a b : ℕ) → a ≢ i → held_at new a b ≡ held_at old a b
   pub scales : (a : ℕ) → a ≢ i → scale_at new.dens.items a ≡ scale_at old.dens.items a
-  pub places : KeepsPlaces (nodes_of old.web) (nodes_of new.web)
+  pub cells : KeepsCells (nodes_of old.web) (nodes_of new.web)
   pub sizes : KeepsSizes old.web new.web
 
 -- the entries of row i become what the arena had there over `by`

@@ -3,7 +3,7 @@ use Rattle.std.specs.Prelude.{◌≡◌, ℕ, ◌<◌, ◌≤◌, true, false, p
 use Rattle.dc_math.specs.Rational.{of_ℤ}
 use Rattle.dc_math.specs.Inverse.{◌/ℚ◌}
 use Rattle.dc_math.specs.Order.{Positive}
-use Rattle.dc_lp.specs.Meanings.{IsPivotPlace}
+use Rattle.dc_lp.specs.Meanings.{IsPivotCell}
 use Rattle.dc_lp.specs.Fill.{fill}
 use Rattle.dc_sparse.specs.declared.cross.Cross.{Cross}
 use Rattle.dc_sparse.specs.declared.web.Web.{Web}
@@ -26,7 +26,7 @@ column_head w k = head_at w.col_heads.items k
 -- each row and each column has its list, and so have the free nodes. An index of the arena that
 -- holds an entry stands in the list of its row and in that of its column and not in that of the free
 -- nodes; any other stands in that one. What a node holds, over the denominator of its row, is the
--- entry at its place, and where none stands the entry is 0. A denominator is above 0.
+-- entry at its cell, and where none stands the entry is 0. A denominator is above 0.
 pub record IsHeld (s : Scaled) (rows columns : ℕ → List ℕ) (free : List ℕ) : Type 0 where
   pub row_lists : (i : ℕ) → i < height_of s.web
       → IsListOf (rows_of s.web) (row_head s.web i) i (rows i)
@@ -46,7 +46,7 @@ abbrev pub HasLists : Type 0
 HasLists = (c : Cross)
     → (rows : ℕ → List ℕ) × (columns : ℕ → List ℕ) × (free : List ℕ) × IsHeld c.held rows columns free
 
--- a tableau that is ready for a pivot has as many free nodes as the pivot fills places
+-- a tableau that is ready for a pivot has as many free nodes as the pivot fills cells
 abbrev pub HasRoom : Type 0
-HasRoom = (c : Cross) (r j : ℕ) → c.ready ≡ Some (r, j) → IsPivotPlace (cross_meaning c).table r j
+HasRoom = (c : Cross) (r j : ℕ) → c.ready ≡ Some (r, j) → IsPivotCell (cross_meaning c).table r j
     → fill (cross_meaning c).table r j ≤ spare_of c

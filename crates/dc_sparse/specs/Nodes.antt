@@ -56,10 +56,10 @@ abbrev pub is_live : List Node → ℕ → Bool
 is_live xs a = not (is_zero (item xs a))
 
 abbrev pub by_rows : List Node → Lines
-by_rows xs = record { live = is_live xs; line = row_at xs; place = col_at xs; next = right_at xs }
+by_rows xs = record { live = is_live xs; line = row_at xs; index = col_at xs; next = right_at xs }
 
 abbrev pub by_columns : List Node → Lines
-by_columns xs = record { live = is_live xs; line = col_at xs; place = row_at xs; next = down_at xs }
+by_columns xs = record { live = is_live xs; line = col_at xs; index = row_at xs; next = down_at xs }
 
 -- ---- single writes
 

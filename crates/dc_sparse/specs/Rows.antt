@@ -5,10 +5,10 @@ use Rattle.dc_math.specs.Inverse.{◌/ℚ◌}
 use Rattle.dc_math.specs.Tests.{is_zero, is_negative}
 use Rattle.dc_frac.specs.Fits.{quotient_fits}
 use Rattle.dc_lp.specs.Meanings.{all_below}
-use Rattle.dc_lp.specs.Fill.{count_below, count_places}
+use Rattle.dc_lp.specs.Fill.{count_below, count_cells}
 use Rattle.dc_start.specs.Changes.{step_fits}
 use Rattle.dc_sparse.specs.declared.web.Node.{Node}
-use Rattle.dc_sparse.specs.Entries.{entry_at, StandsAt, KeepsPlaces}
+use Rattle.dc_sparse.specs.Entries.{entry_at, StandsAt, KeepsCells}
 
 -- what must fit in the columns 0 to n - 1 but col, where factor times row `pivot` is taken from row i
 unfoldable pub reductions_fit : List Node → ℕ → ℕ → ℕ → ℚ → ℕ → Bool
@@ -40,13 +40,14 @@ pub record KeepsRows (old new : List Node) (i : ℕ) : Type 0 where
 
 -- ---- a row of whole numbers
 
--- row i's entries in columns n to m - 1 are multiplied; all other entries and the places of all nodes stay
+-- row i's entries in columns n to m - 1 are multiplied; all other entries and the cells of all
+-- nodes stay
 pub record IsMultiplied (old new : List Node) (i n m : ℕ) (times : ℚ) : Type 0 where
   pub here : (k : ℕ) → n ≤ k → k < m → entry_at new i k ≡ entry_at old i k *ℚ times
   pub before : (k : ℕ) → k < n → entry_at new i k ≡ entry_at old i k
   pub behind : (k : ℕ) → m ≤ k → entry_at new i k ≡ entry_at old i k
   pub others : (a b : ℕ) → a ≢ i → entry_at new a b ≡ entry_at old a b
-  pub places : KeepsPlaces old new
+  pub cells : KeepsCells old new
 
 -- what column k of row i becomes where `factor` times row `pivot` is taken from `times` times row i
 abbrev pub combined_entry : List Node → ℕ → ℕ → ℕ → ℚ → ℚ → ℕ → ℚ
@@ -97,13 +98,13 @@ gaps_in_row e i pivot w = count_below w (λ k. is_zero (e i k) && not (is_zero (
 -- the same over rows 0 to n - 1 that have an entry in column col
 abbrev pub gaps_in_rows : (ℕ → ℕ → ℚ) → ℕ → ℕ → ℕ → ℕ → ℕ
 gaps_in_rows e w pivot col n =
-    count_places n w (λ i k. is_zero (e i k) && not (is_zero (e i col)) && not (is_zero (e pivot k)))
+    count_cells n w (λ i k. is_zero (e i k) && not (is_zero (e i col)) && not (is_zero (e pivot k)))
 
 -- where rows 0 to n - 1 have an entry in column col, the columns below w in which row `pivot` has
 -- one and they have none
 unfoldable pub rows_gaps : List Node → ℕ → ℕ → ℕ → ℕ → ℕ
 rows_gaps xs w pivot col n =
-    count_places n w (λ i k. is_zero (entry_at xs i k)
+    count_cells n w (λ i k. is_zero (entry_at xs i k)
     && not (is_zero (entry_at xs i col)) && not (is_zero (entry_at xs pivot k)))
 
 -- in how many of the columns below w a row has an entry

@@ -1,14 +1,14 @@
 -- How many entries an arena of nodes holds, and how it grows.
 use Rattle.std.specs.Prelude.{◌≡◌, ℕ, ◌-◌, ◌≤◌, not, max, List, length}
 use Rattle.dc_math.specs.Tests.{is_zero}
-use Rattle.dc_lp.specs.Fill.{count_places}
+use Rattle.dc_lp.specs.Fill.{count_cells}
 use Rattle.dc_sparse.specs.declared.web.Node.{Node}
 use Rattle.dc_sparse.specs.Entries.{entry_at}
 use Rattle.dc_sparse.specs.Webs.{free_count}
 
 -- how many entries that aren't 0 an arena holds in the first h rows and w columns
 unfoldable pub held_count : List Node → ℕ → ℕ → ℕ
-held_count xs h w = count_places h w (λ i k. not (is_zero (entry_at xs i k)))
+held_count xs h w = count_cells h w (λ i k. not (is_zero (entry_at xs i k)))
 
 -- how many nodes are linked
 abbrev pub live_count : List Node → ℕ

@@ -16,7 +16,8 @@ use crate::web::Web;
 use crate::whole::is_small;
 use dc_frac::Frac;
 
-/// Where a walk along a row ends: the last node that it passes, and whether all numbers so far are small.
+/// Where a walk along a row ends: the last node that it passes, and whether all numbers so far are
+/// small.
 #[derive(Clone, Copy, Drop)]
 struct Passage {
     pub left: Option<usize>,
@@ -24,8 +25,9 @@ struct Passage {
 }
 
 impl Web {
-    /// Multiplies a row of small whole numbers by `times` and takes `factor` times row `pivot` from it. Column `col` becomes 0.
-    /// Whether all numbers of the row are small then. It takes no memory.
+    /// Multiplies a row of small whole numbers by `times` and takes `factor` times row `pivot` from
+    /// it. Column `col` becomes 0. Whether all numbers of the row are small then. It takes no
+    /// memory.
     pub(crate) fn combine_row(
         &mut self,
         row: usize,
@@ -72,8 +74,9 @@ impl Web {
         self.multiply_rest(row, done, left, times, small)
     }
 
-    /// Multiplies the numbers of a row from column `done` up to column `limit`, whose nodes stand behind `from`. Gives the last node
-    /// before `limit`, and whether all products are small where the numbers so far are.
+    /// Multiplies the numbers of a row from column `done` up to column `limit`, whose nodes stand
+    /// behind `from`. Gives the last node before `limit`, and whether all products are small where
+    /// the numbers so far are.
     fn multiply_to(
         &mut self,
         row: usize,
@@ -138,8 +141,8 @@ impl Web {
         self.multiply_to(row, done, width, from, times, small).small
     }
 
-    /// Multiplies the number of a node, unless it stands before column `done`. Whether the product is small where `small` tells that of
-    /// other numbers.
+    /// Multiplies the number of a node, unless it stands before column `done`. Whether the product
+    /// is small where `small` tells that of other numbers.
     fn multiply(&mut self, node: usize, done: usize, times: i128, small: bool) -> bool
         requires node { is_live (nodes_of self.old) node ≡ true }
         requires times { IsMultiplier times }
@@ -168,7 +171,8 @@ impl Web {
         stays_small(small, entry)
     }
 
-    /// `times` times the number in a column of a row, whose node is `found`, less `factor` times what the pivot's row has there: `by`.
+    /// `times` times the number in a column of a row, whose node is `found`, less `factor` times
+    /// what the pivot's row has there: `by`.
     fn combination(
         &self,
         row: usize,

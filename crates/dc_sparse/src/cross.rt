@@ -82,7 +82,7 @@ impl Cross {
 
 impl Tableau for Cross {
     ghost use Rattle.dc_lp.specs.Problems.{IsWellFormed};
-    ghost use Rattle.dc_lp.specs.Meanings.{IsUsable, IsPivotPlace, resting, ready_at, start, pivoted, pivot_fits};
+    ghost use Rattle.dc_lp.specs.Meanings.{IsUsable, IsPivotCell, resting, ready_at, start, pivoted, pivot_fits};
     ghost use Rattle.dc_sparse.specs.Meanings.{cross_meaning, arena_of, spare_of, live_of};
     ghost use Rattle.dc_lp.specs.Fill.{fill, entry_count};
     ghost use Rattle.dc_sparse.specs.Sizes.{GrowsFor};
@@ -127,12 +127,12 @@ impl Tableau for Cross {
         self.held.web.ratio_row(self.columns, &self.basis, col)
     }
 
-    /// Makes as many nodes free as the pivot fills places, in an arena that grows by those that are
-    /// missing. The places are counted only where a bound by the lengths of the pivot's row and
+    /// Makes as many nodes free as the pivot fills cells, in an arena that grows by those that are
+    /// missing. The cells are counted only where a bound by the lengths of the pivot's row and
     /// column passes the free nodes.
     fn room(&mut self, row: usize, col: usize) -> Result<(), AllocError>
         requires usable { IsUsable (cross_meaning self.old) }
-        requires place { IsPivotPlace (cross_meaning self.old).table row col }
+        requires cell { IsPivotCell (cross_meaning self.old).table row col }
         ensures ok { OnOk result
             (cross_meaning self.new ≡ ready_at (cross_meaning self.old).table row col) }
         ensures err { OnErr result (cross_meaning self.new ≡ cross_meaning self.old) }
@@ -152,7 +152,7 @@ impl Tableau for Cross {
     /// The arena stays as large as it was.
     fn pivot(&mut self, row: usize, col: usize) -> Result<(), PastPivot>
         requires ready { cross_meaning self.old ≡ ready_at (cross_meaning self.old).table row col }
-        requires place { IsPivotPlace (cross_meaning self.old).table row col }
+        requires cell { IsPivotCell (cross_meaning self.old).table row col }
         ensures ok { OnOk result (cross_meaning self.new
             ≡ resting (pivoted (cross_meaning self.old).table row col)) }
         ensures err { OnErr result ((cross_meaning self.new).broken ≡ true) }

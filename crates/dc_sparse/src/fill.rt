@@ -74,12 +74,12 @@ impl Web {
         ensures height { height_of self.new ≡ height_of self.old }
         ensures width { width_of self.new ≡ width_of self.old }
     {
-        self.fill_place(p, p.rows + 1, col)?;
-        self.fill_place(p, p.rows, col)?;
+        self.fill_cell(p, p.rows + 1, col)?;
+        self.fill_cell(p, p.rows, col)?;
         let mut left = p.columns[col].len();
         while left > 0 {
             left -= 1;
-            self.fill_place(p, p.columns[col][left].row, col)?;
+            self.fill_cell(p, p.columns[col][left].row, col)?;
         }
         Ok(())
     }
@@ -99,8 +99,8 @@ impl Web {
         ensures height { height_of self.new ≡ height_of self.old }
         ensures width { width_of self.new ≡ width_of self.old }
     {
-        self.fill_place(p, p.rows, col)?;
-        self.fill_place(p, col - p.columns.len(), col)?;
+        self.fill_cell(p, p.rows, col)?;
+        self.fill_cell(p, col - p.columns.len(), col)?;
         Ok(())
     }
 
@@ -121,14 +121,14 @@ impl Web {
         let mut row = p.rows + 2;
         while row > 0 {
             row -= 1;
-            self.fill_place(p, row, col)?;
+            self.fill_cell(p, row, col)?;
         }
         Ok(())
     }
 
     /// Holds an entry of the starting table, where those below it in its column and those in the
     /// columns behind are held.
-    fn fill_place(&mut self, p: &Problem, row: usize, col: usize) -> Result<(), AllocError>
+    fn fill_cell(&mut self, p: &Problem, row: usize, col: usize) -> Result<(), AllocError>
         requires well_formed { IsWellFormed p.now }
         requires row { row < p.now.rows + 2 }
         requires column { col < width p.now }

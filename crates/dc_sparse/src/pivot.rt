@@ -20,12 +20,14 @@ use dc_frac::Frac;
 impl Scaled {
     ghost use Rattle.dc_sparse.specs.Held.{nodes_of, node_count, height_of, width_of, held_at, KeepsHeld, KeepsOthers, KeepsEntries};
 
-    /// Makes the pivot at a place with an entry. Whether it fits; where it doesn't, the rows are left half done. It takes no memory.
+    /// Makes the pivot at a cell with an entry. Whether it fits; where it doesn't, the rows are
+    /// left half done. It takes no memory.
     pub(crate) fn pivot(&mut self, row: usize, col: usize) -> bool
         requires row { row < height_of self.old.web }
         requires col { col < width_of self.old.web }
         requires entry { is_zero (held_at self.old row col) ≡ false }
-        requires spare { gaps_in_rows (held_at self.old) (width_of self.old.web) row col (height_of self.old.web)
+        requires spare { gaps_in_rows (held_at self.old) (width_of self.old.web) row col
+            (height_of self.old.web)
             ≤ self.old.web.spare }
         ensures fits { result
             ≡ entries_fit (held_at self.old) (width_of self.old.web) (height_of self.old.web) row col }
@@ -39,8 +41,8 @@ impl Scaled {
         self.turn(row, col) && self.reduce_rows(row, col)
     }
 
-    /// Divides the pivot's row by its entry in the pivot's column. Whether the quotients fit; where they don't, the row is left half
-    /// done. It takes no memory.
+    /// Divides the pivot's row by its entry in the pivot's column. Whether the quotients fit; where
+    /// they don't, the row is left half done. It takes no memory.
     pub(crate) fn turn(&mut self, row: usize, col: usize) -> bool
         requires row { row < height_of self.old.web }
         requires col { col < width_of self.old.web }
@@ -66,8 +68,8 @@ impl Scaled {
         }
     }
 
-    /// Reduces every row but `pivot` that has an entry in column `col`. Whether it fits; where it doesn't, the rows are left half done.
-    /// It takes no memory.
+    /// Reduces every row but `pivot` that has an entry in column `col`. Whether it fits; where it
+    /// doesn't, the rows are left half done. It takes no memory.
     pub(crate) fn reduce_rows(&mut self, pivot: usize, col: usize) -> bool
         requires pivot { pivot < height_of self.old.web }
         requires col { col < width_of self.old.web }
@@ -99,8 +101,9 @@ impl Scaled {
         true
     }
 
-    /// Takes its entry in column `col`, which is held as `number`, times row `pivot` from another row. Column `col` becomes 0.
-    /// Whether it fits; where it doesn't, the row is left half done. It takes no memory.
+    /// Takes its entry in column `col`, which is held as `number`, times row `pivot` from another
+    /// row. Column `col` becomes 0. Whether it fits; where it doesn't, the row is left half done.
+    /// It takes no memory.
     fn reduce(&mut self, row: usize, pivot: usize, col: usize, number: Frac) -> bool
         requires row { row < height_of self.old.web }
         requires pivot { pivot < height_of self.old.web }
@@ -197,8 +200,9 @@ impl Scaled {
         true
     }
 
-    /// What row `pivot` is multiplied by as it is held, to be taken from a row of fractions: that row's entry over its denominator.
-    /// Where the quotient doesn't fit, row `pivot` becomes one of fractions.
+    /// What row `pivot` is multiplied by as it is held, to be taken from a row of fractions: that
+    /// row's entry over its denominator. Where the quotient doesn't fit, row `pivot` becomes one of
+    /// fractions.
     fn factor(&mut self, row: usize, pivot: usize, col: usize) -> Frac
         requires row { row < height_of self.old.web }
         requires pivot { pivot < height_of self.old.web }

@@ -60,7 +60,7 @@ impl Web {
         Ok(row_of(best))
     }
 
-    /// The entry at a place, which stands behind `above` in its column.
+    /// The entry at a cell, which stands behind `above` in its column.
     fn entry_below(&self, row: usize, col: usize, above: Option<usize>) -> Frac
         requires col { col < width_of self.now }
         requires above { IsLast (columns_of self.now) col row above }
@@ -72,7 +72,7 @@ impl Web {
         }
     }
 
-    /// The node at a place, which stands behind `above` in its column.
+    /// The node at a cell, which stands behind `above` in its column.
     fn node_below(&self, row: usize, col: usize, above: Option<usize>) -> Option<usize>
         requires col { col < width_of self.now }
         requires above { IsLast (columns_of self.now) col row above }

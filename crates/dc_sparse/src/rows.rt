@@ -6,7 +6,7 @@ ghost use Rattle.dc_math.specs.Tests.{is_zero};
 ghost use Rattle.dc_frac.specs.Value.{value, IsChecked};
 ghost use Rattle.dc_start.specs.Changes.{step_fits};
 ghost use Rattle.dc_sparse.specs.Lines.{IsFirst, IsLast};
-ghost use Rattle.dc_sparse.specs.Entries.{entry_at, IsNodeAt, KeepsPlaces};
+ghost use Rattle.dc_sparse.specs.Entries.{entry_at, IsNodeAt, KeepsCells};
 ghost use Rattle.dc_sparse.specs.Rows.{IsFirstNegative, reductions_fit, reduced_entry, row_gaps, AreReduced, KeepsRows};
 ghost use Rattle.dc_sparse.specs.Rows.{divisions_fit, AreDivided, rows_gaps, entries_in};
 ghost use Rattle.dc_sparse.specs.Held.{nodes_of, node_count, height_of, width_of, rows_of, columns_of};
@@ -17,8 +17,8 @@ use dc_frac::Frac;
 use dc_start::step;
 
 impl Web {
-    /// Takes `factor` times row `pivot` from another row. Column `col` becomes 0. Whether that fits; where it doesn't, the row is left
-    /// half done. It takes no memory.
+    /// Takes `factor` times row `pivot` from another row. Column `col` becomes 0. Whether that
+    /// fits; where it doesn't, the row is left half done. It takes no memory.
     pub(crate) fn reduce_row(&mut self, row: usize, pivot: usize, col: usize, factor: Frac) -> bool
         requires row { row < height_of self.old }
         requires pivot { pivot < height_of self.old }
@@ -54,14 +54,16 @@ impl Web {
         true
     }
 
-    /// Divides a row. Whether the quotients fit; where they don't, the row is left half done. It takes no memory.
+    /// Divides a row. Whether the quotients fit; where they don't, the row is left half done. It
+    /// takes no memory.
     pub(crate) fn divide_row(&mut self, row: usize, by: Frac) -> bool
         requires row { row < height_of self.old }
         requires nonzero { is_zero (value by) ≡ false }
         ensures fits { result ≡ divisions_fit (nodes_of self.old) row (value by) (width_of self.old) }
-        ensures divided { IsTrue result → AreDivided (nodes_of self.old) (nodes_of self.new) row (value by) (width_of self.old) }
+        ensures divided { IsTrue result
+            → AreDivided (nodes_of self.old) (nodes_of self.new) row (value by) (width_of self.old) }
         ensures others { KeepsRows (nodes_of self.old) (nodes_of self.new) row }
-        ensures places { KeepsPlaces (nodes_of self.old) (nodes_of self.new) }
+        ensures cells { KeepsCells (nodes_of self.old) (nodes_of self.new) }
         ensures spare { self.new.spare ≡ self.old.spare }
         ensures arena { node_count self.new ≡ node_count self.old }
         ensures height { height_of self.new ≡ height_of self.old }
@@ -122,7 +124,7 @@ impl Web {
         None
     }
 
-    /// 1 where a place has no entry, and else 0.
+    /// 1 where a cell has no entry, and else 0.
     fn gap_at(&self, row: usize, col: usize, left: Option<usize>) -> usize
         requires row { row < height_of self.now }
         requires left { IsLast (rows_of self.now) row col left }
@@ -134,8 +136,9 @@ impl Web {
         }
     }
 
-    /// How many nodes are to be free for the pivot at a place: as many as it makes entries from 0, or 0 where enough are free for sure.
-    /// Rows are counted until the free nodes suffice for the rest of them. `None` where the number passes 64 bits.
+    /// How many nodes are to be free for the pivot at a cell: as many as it makes entries from 0,
+    /// or 0 where enough are free for sure. Rows are counted until the free nodes suffice for the
+    /// rest of them. `None` where the number passes 64 bits.
     pub(crate) fn need(&self, pivot: usize, col: usize) -> Option<usize>
         requires pivot { pivot < height_of self.now }
         requires col { col < width_of self.now }
@@ -162,8 +165,9 @@ impl Web {
         Some(count)
     }
 
-    /// Whether the free nodes suffice for the pivot at a place even if no other row from `from` on that has an entry in its column has
-    /// one in the other columns of the pivot's row. The rows before make `count` entries from 0, and `first` is the column's next node.
+    /// Whether the free nodes suffice for the pivot at a cell even if no other row from `from` on
+    /// that has an entry in its column has one in the other columns of the pivot's row. The rows
+    /// before make `count` entries from 0, and `first` is the column's next node.
     fn suffices(
         &self,
         pivot: usize,
@@ -176,7 +180,8 @@ impl Web {
         requires pivot { pivot < height_of self.now }
         requires col { col < width_of self.now }
         requires entry { is_zero (entry_at (nodes_of self.now) pivot col) ≡ false }
-        requires across { across + 1 ≡ entries_in (entry_at (nodes_of self.now) pivot) (width_of self.now) }
+        requires across { across + 1
+            ≡ entries_in (entry_at (nodes_of self.now) pivot) (width_of self.now) }
         requires count { count ≡ rows_gaps (nodes_of self.now) (width_of self.now) pivot col from }
         requires first { IsFirst (columns_of self.now) col from first }
         requires within { from ≤ height_of self.now }
@@ -221,7 +226,8 @@ impl Web {
         count
     }
 
-    /// What the entry in a column of a row becomes, whose node is `found`, where the pivot's row has `by` there.
+    /// What the entry in a column of a row becomes, whose node is `found`, where the pivot's row
+    /// has `by` there.
     fn entry_after(
         &self,
         row: usize,

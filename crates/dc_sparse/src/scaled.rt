@@ -45,7 +45,7 @@ impl Scaled {
         }
     }
 
-    /// The entry at a place.
+    /// The entry at a cell.
     pub(crate) fn entry(&self, row: usize, col: usize) -> Frac
         requires row { row < height_of self.now.web }
         ensures { value result ≡ held_at self.now row col }
@@ -62,7 +62,8 @@ impl Scaled {
         }
     }
 
-    /// Makes at least `count` nodes free, in an arena that grows by those that are missing. After a refusal all is as before.
+    /// Makes at least `count` nodes free, in an arena that grows by those that are missing. After a
+    /// refusal all is as before.
     pub(crate) fn reserve(&mut self, count: usize) -> Result<(), AllocError>
         ensures ok { OnOk result (self.new.web.spare ≡ max self.old.web.spare count) }
         ensures err { OnErr result (nodes_of self.new.web ≡ nodes_of self.old.web) }
@@ -128,8 +129,9 @@ impl Scaled {
         }
     }
 
-    /// Makes a row its numbers over `by`, as whole numbers over one denominator: both are divided by `share`. Whether that gives
-    /// small whole numbers; where it doesn't, nothing changes. It takes no memory.
+    /// Makes a row its numbers over `by`, as whole numbers over one denominator: both are divided
+    /// by `share`. Whether that gives small whole numbers; where it doesn't, nothing changes. It
+    /// takes no memory.
     pub(crate) fn take(&mut self, row: usize, by: Frac, share: Frac) -> bool
         requires row { row < height_of self.old.web }
         requires by { is_zero (value by) ≡ false }
@@ -161,8 +163,8 @@ impl Scaled {
         self.dens[row] = None;
     }
 
-    /// Makes a row of small whole numbers these over `by`, where `by` is a denominator. Whether it is; else nothing changes. It takes no
-    /// memory.
+    /// Makes a row of small whole numbers these over `by`, where `by` is a denominator. Whether it
+    /// is; else nothing changes. It takes no memory.
     pub(crate) fn keep(&mut self, row: usize, by: Frac) -> bool
         requires row { row < height_of self.old.web }
         requires whole { (k : ℕ) → IsWhole 41 (entry_at (nodes_of self.old.web) row k) }
@@ -176,8 +178,8 @@ impl Scaled {
         true
     }
 
-    /// Makes a row its numbers over `by`, all without their common divisor: as whole numbers where these are small, and else as
-    /// fractions. It takes no memory.
+    /// Makes a row its numbers over `by`, all without their common divisor: as whole numbers where
+    /// these are small, and else as fractions. It takes no memory.
     pub(crate) fn lower(&mut self, row: usize, by: Frac)
         requires row { row < height_of self.old.web }
         requires by { is_zero (value by) ≡ false }
@@ -191,8 +193,9 @@ impl Scaled {
         }
     }
 
-    /// Makes a row its numbers over `by`, as whole numbers where these are small, if need be without their common divisor. `small` tells
-    /// that all numbers of the row are whole and small. It takes no memory.
+    /// Makes a row its numbers over `by`, as whole numbers where these are small, if need be
+    /// without their common divisor. `small` tells that all numbers of the row are whole and small.
+    /// It takes no memory.
     pub(crate) fn settle(&mut self, row: usize, by: Frac, small: bool)
         requires row { row < height_of self.old.web }
         requires whole { IsTrue small → (k : ℕ) → IsWhole 41 (entry_at (nodes_of self.old.web) row k) }
@@ -217,7 +220,8 @@ impl Scaled {
         }
     }
 
-    /// Makes a row of fractions one of whole numbers over a common denominator, where these are small. It takes no memory.
+    /// Makes a row of fractions one of whole numbers over a common denominator, where these are
+    /// small. It takes no memory.
     pub(crate) fn gather(&mut self, row: usize)
         requires row { row < height_of self.old.web }
         requires den { scale_at self.old.dens.items row ≡ None }

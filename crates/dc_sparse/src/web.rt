@@ -4,7 +4,7 @@
 
 ghost use Rattle.std.specs.Prelude.{◌≡◌, ℕ, ◌<◌, ◌≤◌, length, [], None, IsTrue};
 ghost use Rattle.dc_frac.specs.Value.{value};
-ghost use Rattle.dc_sparse.specs.Lines.{IsBefore, IsFirst, IsLast, IsStop, StandsBefore, place_after};
+ghost use Rattle.dc_sparse.specs.Lines.{IsBefore, IsFirst, IsLast, IsStop, StandsBefore, index_after};
 ghost use Rattle.dc_sparse.specs.Nodes.{most, link, IsLink};
 ghost use Rattle.dc_sparse.specs.Webs.{free_count, IsSmall, IsWoven};
 ghost use Rattle.dc_sparse.specs.Entries.{entry_at, IsNodeAt};
@@ -194,7 +194,7 @@ impl Web {
     pub(crate) fn right_of(&self, row: usize, left: Option<usize>) -> Option<usize>
         requires row { row < height_of self.now }
         requires left { IsStop (rows_of self.now) row left }
-        ensures { IsFirst (rows_of self.now) row (place_after (rows_of self.now) left) result }
+        ensures { IsFirst (rows_of self.now) row (index_after (rows_of self.now) left) result }
     {
         match left {
             None => self.row_heads[row],
@@ -206,7 +206,7 @@ impl Web {
     pub(crate) fn down_of(&self, col: usize, above: Option<usize>) -> Option<usize>
         requires col { col < width_of self.now }
         requires above { IsStop (columns_of self.now) col above }
-        ensures { IsFirst (columns_of self.now) col (place_after (columns_of self.now) above) result }
+        ensures { IsFirst (columns_of self.now) col (index_after (columns_of self.now) above) result }
     {
         match above {
             None => self.col_heads[col],
@@ -281,7 +281,7 @@ impl Web {
         !node.value.is_zero()
     }
 
-    /// The node at a place, which stands behind `left` in its row.
+    /// The node at a cell, which stands behind `left` in its row.
     pub(crate) fn node_at(&self, row: usize, col: usize, left: Option<usize>) -> Option<usize>
         requires row { row < height_of self.now }
         requires left { IsLast (rows_of self.now) row col left }
@@ -295,7 +295,7 @@ impl Web {
         }
     }
 
-    /// The entry at a place.
+    /// The entry at a cell.
     pub(crate) fn entry(&self, row: usize, col: usize) -> Frac
         requires row { row < height_of self.now }
         ensures { value result ≡ entry_at (nodes_of self.now) row col }

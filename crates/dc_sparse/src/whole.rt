@@ -7,7 +7,7 @@ ghost use Rattle.dc_math.specs.Tests.{is_zero};
 ghost use Rattle.dc_math.specs.Inverse.{◌/ℚ◌};
 ghost use Rattle.dc_frac.specs.Fits.{product_fits, quotient_fits};
 ghost use Rattle.dc_frac.specs.Value.{value, IsChecked};
-ghost use Rattle.dc_sparse.specs.Entries.{entry_at, KeepsPlaces};
+ghost use Rattle.dc_sparse.specs.Entries.{entry_at, KeepsCells};
 ghost use Rattle.dc_sparse.specs.Rows.{KeepsRows};
 ghost use Rattle.dc_sparse.specs.Scales.{IsWhole, IsDen, AreParted};
 ghost use Rattle.dc_sparse.specs.Held.{nodes_of, height_of, KeepsSizes};

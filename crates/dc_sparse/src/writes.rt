@@ -6,7 +6,7 @@ ghost use Rattle.dc_math.specs.Tests.{is_zero};
 ghost use Rattle.dc_frac.specs.Value.{value};
 ghost use Rattle.dc_sparse.specs.Lines.{IsLast};
 ghost use Rattle.dc_sparse.specs.Nodes.{row_at, col_at, is_live, IsIn, IsLink, IsRelinkedRight, IsRelinkedDown, AreReheaded};
-ghost use Rattle.dc_sparse.specs.Webs.{IsVacant, IsPlaced, IsCleared};
+ghost use Rattle.dc_sparse.specs.Webs.{IsVacant, IsSeated, IsCleared};
 ghost use Rattle.dc_sparse.specs.Entries.{entry_at, StandsAt, IsNodeAt, IsPut, takes};
 ghost use Rattle.dc_sparse.specs.Sizes.{HasGrown};
 ghost use Rattle.dc_sparse.specs.Held.{nodes_of, node_count, height_of, width_of, rows_of, columns_of};
@@ -16,7 +16,7 @@ use dc_frac::Frac;
 use std::alloc::AllocError;
 
 impl Web {
-    /// Holds an entry at a place that has none, nor any before it in its row.
+    /// Holds an entry at a cell that has none, nor any before it in its row.
     pub(crate) fn hold(&mut self, row: usize, col: usize, entry: Frac) -> Result<(), AllocError>
         requires row { row < height_of self.old }
         requires col { col < width_of self.old }
@@ -36,7 +36,7 @@ impl Web {
         Ok(())
     }
 
-    /// Makes `entry` the entry at a place, whose node is `found` and which stands behind `left` in
+    /// Makes `entry` the entry at a cell, whose node is `found` and which stands behind `left` in
     /// its row. The column's stop moves there.
     pub(crate) fn put(
         &mut self,
@@ -104,7 +104,7 @@ impl Web {
         }
     }
 
-    /// Takes a free node to hold a value at a place without a node, behind `left` in its row and
+    /// Takes a free node to hold a value at a cell without a node, behind `left` in its row and
     /// behind `above` in its column.
     pub(crate) fn insert(
         &mut self,
@@ -121,7 +121,8 @@ impl Web {
         requires vacant { IsVacant (nodes_of self.old) row col }
         requires left { IsLast (rows_of self.old) row col left }
         requires above { IsLast (columns_of self.old) col row above }
-        ensures placed { IsPlaced (nodes_of self.old) (nodes_of self.new) result row col (value entry) }
+        ensures seated { IsSeated (nodes_of self.old) (nodes_of self.new)
+            result row col (value entry) }
         ensures spare { self.new.spare + 1 ≡ self.old.spare }
         ensures arena { node_count self.new ≡ node_count self.old }
         ensures height { height_of self.new ≡ height_of self.old }

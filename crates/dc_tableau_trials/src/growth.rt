@@ -1,5 +1,5 @@
 //! Runs whose numbers lie around 2^41, 2^63 and 2^127 or pass them. The sparse tableau may hold a row as whole numbers over one
-//! denominator while all are below 2^41 in size, and else as fractions; none of that is seen. The places, numbers of nodes and ends were
+//! denominator while all are below 2^41 in size, and else as fractions; none of that is seen. The cells, numbers of nodes and ends were
 //! worked out by a table of fractions kept apart from this program.
 use crate::runs::{End, ends};
 use crate::steps::walk;
@@ -24,11 +24,11 @@ fn trial(
     rt: &impl Abort,
     alloc: Global,
     p: &Problem,
-    places: &[(usize, usize, usize)],
+    cells: &[(usize, usize, usize)],
     end: &End,
 ) -> Result<(), Fail> {
-    walk(rt, alloc, &mut Dense::new(alloc), p, places)?;
-    assert!(rt; ends(rt, alloc, p, places.len() as u64, end));
+    walk(rt, alloc, &mut Dense::new(alloc), p, cells)?;
+    assert!(rt; ends(rt, alloc, p, cells.len() as u64, end));
     Ok(())
 }
 
@@ -38,15 +38,9 @@ fn coefficient(rt: &impl Abort, alloc: Global, v: i128) -> Result<(), Fail> {
     let columns: [&[Entry]; 3] = [&[at(0, v)], &[at(0, 1), at(1, 1)], &[at(1, 2)]];
     let p = problem(alloc, &columns, &[1, 1], &[v, 1, -2])?;
     let [zero, one, less] = [Frac::whole(0), Frac::whole(1), Frac::whole(-1)];
-    let places = [(0, 0, 15), (0, 1, 15), (1, 2, 12), (0, 0, 11)];
+    let cells = [(0, 0, 15), (0, 1, 15), (1, 2, 12), (0, 0, 11)];
     let x = [Frac::new(1, v), zero, Frac::new(1, 2)];
-    trial(
-        rt,
-        alloc,
-        &p,
-        &places,
-        &End::Best(&x, &[one, less], zero, 4),
-    )
+    trial(rt, alloc, &p, &cells, &End::Best(&x, &[one, less], zero, 4))
 }
 
 #[test]
@@ -86,9 +80,9 @@ fn drive_out(rt: &impl Abort, alloc: Global, v: i128) -> Result<(), Fail> {
     ];
     let p = problem(alloc, &columns, &[0, 1], &[0, 1, 0])?;
     let [zero, third] = [Frac::whole(0), Frac::new(1, 3)];
-    let places = [(1, 1, 15), (0, 0, 12), (0, 2, 12)];
+    let cells = [(1, 1, 15), (0, 0, 12), (0, 2, 12)];
     let end = End::Best(&[zero, third, zero], &[third, third], third, 3);
-    trial(rt, alloc, &p, &places, &end)
+    trial(rt, alloc, &p, &cells, &end)
 }
 
 #[test]
@@ -109,7 +103,7 @@ fn grows_and_shrinks(rt: HostRuntime) -> Result<(), Fail> {
         &[at(0, 3), at(2, 2)],
     ];
     let p = problem(rt.alloc(), &columns, &[0, 0, 0], &[-1, 0, 2])?;
-    let places = [(2, 0, 17), (2, 2, 16), (0, 0, 16), (1, 1, 12)];
+    let cells = [(2, 0, 17), (2, 2, 16), (0, 0, 16), (1, 1, 12)];
     let x = [Frac::whole(0), Frac::whole(0), Frac::whole(0)];
     let y = [
         Frac::new(2_097_168, 3_145_751),
@@ -117,7 +111,7 @@ fn grows_and_shrinks(rt: HostRuntime) -> Result<(), Fail> {
         Frac::new(-1, 3_145_751),
     ];
     let end = End::Best(&x, &y, Frac::whole(0), 4);
-    trial(&rt, rt.alloc(), &p, &places, &end)
+    trial(&rt, rt.alloc(), &p, &cells, &end)
 }
 
 // The first pivot of drive-out is negative, in a row that has passed 2^41; phase two follows.
@@ -130,7 +124,7 @@ fn driven_among_fractions(rt: HostRuntime) -> Result<(), Fail> {
         &[at(0, 549_755_813_889), at(1, 1)],
     ];
     let p = problem(rt.alloc(), &columns, &[0, 0], &[2, 0, -1, 0])?;
-    let places = [
+    let cells = [
         (0, 0, 17),
         (0, 2, 15),
         (0, 3, 16),
@@ -146,7 +140,7 @@ fn driven_among_fractions(rt: HostRuntime) -> Result<(), Fail> {
     ];
     let y = [Frac::whole(-1), Frac::whole(549_755_813_889)];
     let end = End::Best(&x, &y, Frac::whole(0), 6);
-    trial(&rt, rt.alloc(), &p, &places, &end)
+    trial(&rt, rt.alloc(), &p, &cells, &end)
 }
 
 // Equation 0 passes 2^41 at pivot 1 and comes back at pivot 2, and so does the cost row of phase one. The cost row of phase two stays
@@ -165,7 +159,7 @@ fn optimum_after_growth(rt: HostRuntime) -> Result<(), Fail> {
         &[1_000_003, 7, 5],
         &[1, -1_000_003, -3, 1],
     )?;
-    let places = [(1, 0, 25), (1, 1, 25), (2, 2, 24), (0, 3, 18)];
+    let cells = [(1, 0, 25), (1, 1, 25), (2, 2, 24), (0, 3, 18)];
     let x = [
         Frac::whole(0),
         Frac::new(7, 4),
@@ -174,7 +168,7 @@ fn optimum_after_growth(rt: HostRuntime) -> Result<(), Fail> {
     ];
     let y = [Frac::whole(1), Frac::whole(-250_001), Frac::whole(-2)];
     let end = End::Best(&x, &y, Frac::whole(-750_014), 4);
-    trial(&rt, rt.alloc(), &p, &places, &end)
+    trial(&rt, rt.alloc(), &p, &cells, &end)
 }
 
 // Equation 1 and the cost row of phase two pass 2^41 in phase one and come back at the pivot of phase two.
@@ -188,7 +182,7 @@ fn optimum_of_costs(rt: HostRuntime) -> Result<(), Fail> {
         &[at(0, 1), at(1, -1)],
     ];
     let p = problem(rt.alloc(), &columns, &[2, 5, 1], &[-1, -1, 2, -1, -3])?;
-    let places = [(1, 0, 27), (2, 1, 24), (2, 2, 28), (0, 4, 24), (2, 1, 21)];
+    let cells = [(1, 0, 27), (2, 1, 24), (2, 2, 28), (0, 4, 24), (2, 1, 21)];
     let x = [
         Frac::new(7, 2),
         Frac::new(1, 3),
@@ -198,7 +192,7 @@ fn optimum_of_costs(rt: HostRuntime) -> Result<(), Fail> {
     ];
     let y = [Frac::new(-7, 2), Frac::new(-1, 2), Frac::new(-1, 3)];
     let end = End::Best(&x, &y, Frac::new(-59, 6), 5);
-    trial(&rt, rt.alloc(), &p, &places, &end)
+    trial(&rt, rt.alloc(), &p, &cells, &end)
 }
 
 // Rows pass 2^41 at pivots 1 and 3 and come back at pivots 2 and 4.
@@ -212,7 +206,7 @@ fn no_bound_after_growth(rt: HostRuntime) -> Result<(), Fail> {
         &[at(2, -2)],
     ];
     let p = problem(rt.alloc(), &columns, &[0, 0, 0], &[2, 1, -1, 1, 2])?;
-    let places = [(2, 0, 25), (2, 2, 19), (1, 0, 16), (1, 1, 16)];
+    let cells = [(2, 0, 25), (2, 2, 19), (1, 0, 16), (1, 1, 16)];
     let x = [
         Frac::whole(0),
         Frac::whole(0),
@@ -228,7 +222,7 @@ fn no_bound_after_growth(rt: HostRuntime) -> Result<(), Fail> {
         Frac::whole(0),
     ];
     let end = End::NoBound(&x, &ray, 4);
-    trial(&rt, rt.alloc(), &p, &places, &end)
+    trial(&rt, rt.alloc(), &p, &cells, &end)
 }
 
 // Rows pass 2^41 at pivots 1 and 3 and come back at pivot 2.
@@ -240,8 +234,8 @@ fn no_solution_after_growth(rt: HostRuntime) -> Result<(), Fail> {
         &[at(0, 3), at(1, 3)],
     ];
     let p = problem(rt.alloc(), &columns, &[0, 1], &[1, 1, 1])?;
-    let places = [(0, 0, 17), (0, 1, 15), (0, 2, 17)];
+    let cells = [(0, 0, 17), (0, 1, 15), (0, 2, 17)];
     let y = [Frac::whole(-1), Frac::whole(1)];
     let end = End::None(&y, 3);
-    trial(&rt, rt.alloc(), &p, &places, &end)
+    trial(&rt, rt.alloc(), &p, &cells, &end)
 }

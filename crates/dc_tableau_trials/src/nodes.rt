@@ -9,7 +9,7 @@ fn has(cross: &Cross, live: usize, spare: usize) -> bool {
     cross.live() == live && cross.spare() == spare
 }
 
-// 3 * x0 + 5 * x1 = 1 with costs 7 and 0: rows of 4, 4 and 1 entries. The pivot at the first place
+// 3 * x0 + 5 * x1 = 1 with costs 7 and 0: rows of 4, 4 and 1 entries. The pivot at the first cell
 // leaves none in the first cost row and makes three in the second, so that five nodes are free.
 #[test]
 fn nodes_of_a_pivot(rt: HostRuntime) -> Result<(), Fail> {

@@ -18,17 +18,17 @@ fn is_past(rt: &impl Abort, alloc: Global, p: &Problem, made: usize) -> bool {
     ends(rt, alloc, p, spent, &End::Spent(spent)) && ends(rt, alloc, p, past, &End::Past(past))
 }
 
-// After these pivots the one at a place is due, and a value of it doesn't fit.
+// After these pivots the one at a cell is due, and a value of it doesn't fit.
 fn breaks(
     rt: &impl Abort,
     alloc: Global,
     p: &Problem,
-    places: &[(usize, usize, usize)],
+    cells: &[(usize, usize, usize)],
     row: usize,
     col: usize,
 ) -> Result<(), Fail> {
-    break_at(rt, alloc, &mut Dense::new(alloc), p, places, row, col)?;
-    assert!(rt; is_past(rt, alloc, p, places.len()));
+    break_at(rt, alloc, &mut Dense::new(alloc), p, cells, row, col)?;
+    assert!(rt; is_past(rt, alloc, p, cells.len()));
     Ok(())
 }
 
@@ -37,11 +37,11 @@ fn stops(
     rt: &impl Abort,
     alloc: Global,
     p: &Problem,
-    places: &[(usize, usize, usize)],
+    cells: &[(usize, usize, usize)],
     col: usize,
 ) -> Result<(), Fail> {
-    stop_at(rt, alloc, &mut Dense::new(alloc), p, places, col)?;
-    assert!(rt; is_past(rt, alloc, p, places.len()));
+    stop_at(rt, alloc, &mut Dense::new(alloc), p, cells, col)?;
+    assert!(rt; is_past(rt, alloc, p, cells.len()));
     Ok(())
 }
 

@@ -24,7 +24,7 @@ pub(crate) fn load<T: Tableau>(tableau: &mut T, p: &Problem) -> Result<(), Alloc
     tableau.load(p)
 }
 
-/// Makes room for the pivot at a place, which is an equation's row and a real column with an entry
+/// Makes room for the pivot at a cell, which is an equation's row and a real column with an entry
 /// there.
 pub(crate) fn make_room<T: Tableau>(
     rt: &impl Abort,
@@ -80,7 +80,7 @@ fn agree<S: Tableau, T: Tableau>(a: &S, b: &T, rows: usize, columns: usize) -> b
     true
 }
 
-// The pivot at a place on both tableaux, which are alike after it; the sparse one has so many nodes
+// The pivot at a cell on both tableaux, which are alike after it; the sparse one has so many nodes
 // linked, and none lost.
 fn step<S: Tableau>(
     rt: &impl Abort,
@@ -88,7 +88,7 @@ fn step<S: Tableau>(
     cross: &mut Cross,
     rows: usize,
     columns: usize,
-    place: &(usize, usize, usize),
+    cell: &(usize, usize, usize),
 ) -> Result<(), Fail>
     requires first { IsOver (S.meaning dense.old) rows columns }
     requires second { IsOver (cross_meaning cross.old) rows columns }
@@ -96,7 +96,7 @@ fn step<S: Tableau>(
     ensures first { OnOk result (IsOver (S.meaning dense.new) rows columns) }
     ensures second { OnOk result (IsOver (cross_meaning cross.new) rows columns) }
 {
-    let (row, col, live) = *place;
+    let (row, col, live) = *cell;
     make_room(rt, dense, rows, columns, row, col)?;
     make_pivot(rt, dense, rows, columns, row, col);
     make_room(rt, cross, rows, columns, row, col)?;
@@ -108,13 +108,13 @@ fn step<S: Tableau>(
     Ok(())
 }
 
-/// Loads a problem into both tableaux and makes pivots: for each by Bland's rule its place and how many nodes are linked after it.
+/// Loads a problem into both tableaux and makes pivots: for each by Bland's rule its cell and how many nodes are linked after it.
 pub(crate) fn go<S: Tableau>(
     rt: &impl Abort,
     dense: &mut S,
     cross: &mut Cross,
     p: &Problem,
-    places: &[(usize, usize, usize)],
+    cells: &[(usize, usize, usize)],
 ) -> Result<(), Fail>
     requires well_formed { IsWellFormed p.now }
     requires small { p.now.rows + columns_of p.now + 2 < 2 ^ 64 }
@@ -125,8 +125,8 @@ pub(crate) fn go<S: Tableau>(
     load(dense, p)?;
     load(cross, p)?;
     assert!(rt; agree(dense, cross, rows, columns));
-    for place in places {
-        step(rt, dense, cross, rows, columns, place)?;
+    for cell in cells {
+        step(rt, dense, cross, rows, columns, cell)?;
     }
     Ok(())
 }
@@ -137,16 +137,16 @@ pub(crate) fn walk<S: Tableau>(
     alloc: Global,
     dense: &mut S,
     p: &Problem,
-    places: &[(usize, usize, usize)],
+    cells: &[(usize, usize, usize)],
 ) -> Result<(), Fail> {
     assert!(rt; p.is_well_formed());
     assert!(rt; p.rows < 1000);
     assert!(rt; p.columns.len() < 1000);
     let mut cross = Cross::new(alloc);
-    go(rt, dense, &mut cross, p, places)
+    go(rt, dense, &mut cross, p, cells)
 }
 
-// Whether a value of the pivot at a place doesn't fit.
+// Whether a value of the pivot at a cell doesn't fit.
 fn breaks<T: Tableau>(
     rt: &impl Abort,
     tableau: &mut T,
@@ -176,13 +176,13 @@ fn has_no_ratio<T: Tableau>(
     tableau.ratio_row(col).is_err()
 }
 
-/// Pivots are made up to one at a place, which breaks both tableaux; then both are loaded again.
+/// Pivots are made up to one at a cell, which breaks both tableaux; then both are loaded again.
 pub(crate) fn break_at<S: Tableau>(
     rt: &impl Abort,
     alloc: Global,
     dense: &mut S,
     p: &Problem,
-    places: &[(usize, usize, usize)],
+    cells: &[(usize, usize, usize)],
     row: usize,
     col: usize,
 ) -> Result<(), Fail> {
@@ -191,10 +191,10 @@ pub(crate) fn break_at<S: Tableau>(
     assert!(rt; rows < 1000);
     assert!(rt; columns < 1000);
     let mut cross = Cross::new(alloc);
-    go(rt, dense, &mut cross, p, places)?;
+    go(rt, dense, &mut cross, p, cells)?;
     assert!(rt; breaks(rt, dense, rows, columns, row, col)?);
     assert!(rt; breaks(rt, &mut cross, rows, columns, row, col)?);
-    go(rt, dense, &mut cross, p, places)
+    go(rt, dense, &mut cross, p, cells)
 }
 
 /// Pivots are made until a column is to enter where both tableaux have no ratio row, since a quotient doesn't fit.
@@ -203,7 +203,7 @@ pub(crate) fn stop_at<S: Tableau>(
     alloc: Global,
     dense: &mut S,
     p: &Problem,
-    places: &[(usize, usize, usize)],
+    cells: &[(usize, usize, usize)],
     col: usize,
 ) -> Result<(), Fail> {
     let [rows, columns] = [p.rows, p.columns.len()];
@@ -211,7 +211,7 @@ pub(crate) fn stop_at<S: Tableau>(
     assert!(rt; rows < 1000);
     assert!(rt; columns < 1000);
     let mut cross = Cross::new(alloc);
-    go(rt, dense, &mut cross, p, places)?;
+    go(rt, dense, &mut cross, p, cells)?;
     assert!(rt; has_no_ratio(rt, dense, rows, columns, col));
     assert!(rt; has_no_ratio(rt, &cross, rows, columns, col));
     Ok(())
@@ -252,7 +252,7 @@ fn pivots_of_small_problems(rt: HostRuntime) -> Result<(), Fail> {
 #[test]
 fn pivots_of_degenerate_tables(rt: HostRuntime) -> Result<(), Fail> {
     let alloc = rt.alloc();
-    let places = [
+    let cells = [
         (0, 0, 28),
         (1, 1, 24),
         (2, 2, 20),
@@ -263,5 +263,5 @@ fn pivots_of_degenerate_tables(rt: HostRuntime) -> Result<(), Fail> {
         (2, 1, 26),
         (2, 3, 28),
     ];
-    walk(&rt, alloc, &mut Dense::new(alloc), &circle(alloc)?, &places)
+    walk(&rt, alloc, &mut Dense::new(alloc), &circle(alloc)?, &cells)
 }

@@ -2,14 +2,14 @@ use Rattle.std.proofs.Common.{◌≡◌, ◌∙◌, sym, ap, true, arith, rules,
 use Rattle.dc_math.specs.Rational.{ℚ}
 use Rattle.dc_frac.specs.Value.{value}
 use Rattle.dc_dense.specs.Flat.{item, divisions_fit, IsDivided}
-use Rattle.dc_dense.proofs.Places.{place_below}
+use Rattle.dc_dense.proofs.Indices.{index_below}
 use Rattle.dc_dense.proofs.Flats.{item-is, items_fit-divided, pivoted_item-divided}
 use Rattle.dc_dense.proofs.pivot.pivot_items.Goals as goal
 
 pub returns-then-divide-clause-fits : goal.returns-then-divide-clause-fits
 returns-then-divide-clause-fits c =
     let a = c.args in
-    let q : a.row * a.width + a.col < length a.items.now = (let e : a.row * a.width + a.col < a.height * a.width = place_below a.row a.col a.height a.width c.requires.row c.requires.column in omega arith) in
+    let q : a.row * a.width + a.col < length a.items.now = (let e : a.row * a.width + a.col < a.height * a.width = index_below a.row a.col a.height a.width c.requires.row c.requires.column in omega arith) in
     let by : value c.index-items-row.result ≡ item a.items.now (a.row * a.width + a.col) = item-is a.items.now (a.row * a.width + a.col) c.index-items-row.result q c.index-items-row.is in
     let yes : IsTrue c.divide.result = search rules in
     let d : IsDivided a.items.now c.divide.new.items (a.row * a.width) a.width (item a.items.now (a.row * a.width + a.col)) = rw by at (c.divide.ensures.divided yes) in
@@ -19,7 +19,7 @@ returns-then-divide-clause-fits c =
 pub returns-then-divide-clause-pivoted : goal.returns-then-divide-clause-pivoted
 returns-then-divide-clause-pivoted c yes' =
     let a = c.args in
-    let q : a.row * a.width + a.col < length a.items.now = (let e : a.row * a.width + a.col < a.height * a.width = place_below a.row a.col a.height a.width c.requires.row c.requires.column in omega arith) in
+    let q : a.row * a.width + a.col < length a.items.now = (let e : a.row * a.width + a.col < a.height * a.width = index_below a.row a.col a.height a.width c.requires.row c.requires.column in omega arith) in
     let by : value c.index-items-row.result ≡ item a.items.now (a.row * a.width + a.col) = item-is a.items.now (a.row * a.width + a.col) c.index-items-row.result q c.index-items-row.is in
     let yes : IsTrue c.divide.result = search rules in
     let d : IsDivided a.items.now c.divide.new.items (a.row * a.width) a.width (item a.items.now (a.row * a.width + a.col)) = rw by at (c.divide.ensures.divided yes) in

@@ -1,14 +1,14 @@
 use Rattle.std.proofs.Common.{refl, rules}
 use Rattle.dc_lp.specs.Problems.{linear_of}
-use Rattle.dc_simplex.proofs.Steps.{here-begun, here-more, here-place}
+use Rattle.dc_simplex.proofs.Steps.{here-begun, here-more, here-cell}
 use Rattle.dc_simplex.proofs.run.run.Goals as goal
 
 pub loop-ending-init : goal.loop-ending-init
 loop-ending-init g c = here-begun c.args.p.now c.args.budget c.args.p.now.rows c.len-n.result (g.T.Tableau.meaning c.args.tableau.now) c.requires.loaded refl (search rules)
 
-pub change-requires-clause-place : goal.change-requires-clause-place
-change-requires-clause-place g c =
-    here-place (linear_of c.args.p.now) c.args.budget c.args.p.now.rows c.len-n.result c.loop-ending.pivots c.loop-ending.phase (g.T.Tableau.meaning c.loop-ending.tableau) c.loop-ending.invariant
+pub change-requires-clause-cell : goal.change-requires-clause-cell
+change-requires-clause-cell g c =
+    here-cell (linear_of c.args.p.now) c.args.budget c.args.p.now.rows c.len-n.result c.loop-ending.pivots c.loop-ending.phase (g.T.Tableau.meaning c.loop-ending.tableau) c.loop-ending.invariant
     c.in-Ok-Pivot.next c.in-Ok-Pivot.row c.in-Ok-Pivot.col (rw c.in-Ok-Pivot.field-0-is at c.in-Ok-Pivot.ensures)
 
 pub loop-ending-preserved : goal.loop-ending-preserved

@@ -1,7 +1,7 @@
 use Rattle.std.proofs.Common.{◌≡◌, ◌<◌, set, length, arith, ap, ◌∙◌}
 use Rattle.dc_frac.specs.Value.{value}
 use Rattle.dc_sparse.specs.declared.web.Node.{Node}
-use Rattle.dc_sparse.proofs.Cells.{written}
+use Rattle.dc_sparse.proofs.SingleWrites.{written}
 use Rattle.dc_sparse.proofs.Blank.{freed_start, freed_more}
 use Rattle.dc_sparse.proofs.memory.free_all.Goals as goal
 

@@ -1,4 +1,4 @@
-use Rattle.dc_sparse.proofs.Cells.{relinked_down, reheaded_at}
+use Rattle.dc_sparse.proofs.SingleWrites.{relinked_down, reheaded_at}
 use Rattle.dc_sparse.proofs.writes.link_down.Goals as goal
 
 pub returns-in-None-clause-heads : goal.returns-in-None-clause-heads

@@ -1,4 +1,4 @@
-use Rattle.dc_sparse.proofs.Cells.{relinked_right, reheaded_at}
+use Rattle.dc_sparse.proofs.SingleWrites.{relinked_right, reheaded_at}
 use Rattle.dc_sparse.proofs.writes.link_right.Goals as goal
 
 pub returns-in-None-clause-heads : goal.returns-in-None-clause-heads

@@ -1,6 +1,6 @@
 use Rattle.std.proofs.Common.{◌<◌, ℕ, Some, length, arith, refl}
 use Rattle.dc_frac.specs.Value.{value}
-use Rattle.dc_sparse.specs.Entries.{entry_at, KeepsPlaces}
+use Rattle.dc_sparse.specs.Entries.{entry_at, KeepsCells}
 use Rattle.dc_sparse.specs.Rows.{KeepsRows}
 use Rattle.dc_sparse.specs.Scales.{IsWhole, IsDen}
 use Rattle.dc_sparse.proofs.Scaling.{scaled-set}
@@ -19,5 +19,5 @@ pub returns-clause-taken : goal.returns-clause-taken
 returns-clause-taken c _ =
     let s = c.args.self.now in
     let rows : KeepsRows s.web.nodes.items s.web.nodes.items c.args.row = record { entries = λ a b ne. refl; stays = λ n a b ne h. h; stood = λ n a b ne h. h } in
-    let places : KeepsPlaces s.web.nodes.items s.web.nodes.items = record { stays = λ n a b h. h; stood = λ n a b h. h } in
-    taken_over s _ c.args.row (Some c.args.by) c.requires.row refl rows (value c.args.by) (λ k. refl) places (same_sizes s.web)
+    let cells : KeepsCells s.web.nodes.items s.web.nodes.items = record { stays = λ n a b h. h; stood = λ n a b h. h } in
+    taken_over s _ c.args.row (Some c.args.by) c.requires.row refl rows (value c.args.by) (λ k. refl) cells (same_sizes s.web)

@@ -73,8 +73,8 @@ returns-then-not-reduce_row-clause-others c =
     let k = c.reduce_row.ensures.others in
     record {
       entries = λ a b ne. held-kept t _ a b refl (k.entries a b ne) ∙ same a b;
-      stays = λ n a b ne h. k.stays n a b ne (e₂.others.places.stays n a b (e₁.others.places.stays n a b h));
-      stood = λ n a b ne h. e₁.others.places.stood n a b (e₂.others.places.stood n a b (k.stood n a b ne h));
+      stays = λ n a b ne h. k.stays n a b ne (e₂.others.cells.stays n a b (e₁.others.cells.stays n a b h));
+      stood = λ n a b ne h. e₁.others.cells.stood n a b (e₂.others.cells.stood n a b (k.stood n a b ne h));
     }
 
 pub returns-clause-fits : goal.returns-clause-fits
@@ -122,11 +122,11 @@ returns-clause-others c =
     let product : (k : ℕ) → value c.factor-factor.result *ℚ entry_at t.web.nodes.items c.args.pivot k ≡ held_at s c.args.row c.args.col *ℚ held_at s c.args.pivot k =
     λ k. c.factor-factor.ensures.factor k ∙ ap₂ ◌*ℚ◌ (all_entries s c.spread.new.self c.args.row e₁ c.args.row c.args.col) (all_entries s c.spread.new.self c.args.row e₁ c.args.pivot k) in
     let k = c.reduce_row.ensures.others in
-    let p = c.gather.ensures.others.places in
+    let p = c.gather.ensures.others.cells in
     record {
       entries = λ a b ne. c.gather.ensures.others.entries a b ne ∙ held-kept t _ a b refl (k.entries a b ne) ∙ same a b;
-      stays = λ n a b ne h. p.stays n a b (k.stays n a b ne (e₂.others.places.stays n a b (e₁.others.places.stays n a b h)));
-      stood = λ n a b ne h. e₁.others.places.stood n a b (e₂.others.places.stood n a b (k.stood n a b ne (p.stood n a b h)));
+      stays = λ n a b ne h. p.stays n a b (k.stays n a b ne (e₂.others.cells.stays n a b (e₁.others.cells.stays n a b h)));
+      stood = λ n a b ne h. e₁.others.cells.stood n a b (e₂.others.cells.stood n a b (k.stood n a b ne (p.stood n a b h)));
     }
 
 pub returns-clause-spare : goal.returns-clause-spare

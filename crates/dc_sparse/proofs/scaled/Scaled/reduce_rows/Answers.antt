@@ -5,7 +5,7 @@ use Rattle.dc_sparse.specs.Rows.{steps_fit, stepped_at, gaps_in_row}
 use Rattle.dc_sparse.specs.Held.{held_at, KeepsHeld}
 use Rattle.dc_sparse.specs.Entries.{entry_at}
 use Rattle.dc_sparse.proofs.Entries.{entry-node}
-use Rattle.dc_sparse.proofs.Cells.{item_live, item-read}
+use Rattle.dc_sparse.proofs.SingleWrites.{item_live, item-read}
 use Rattle.dc_sparse.proofs.Links.{row-read, down-read}
 use Rattle.dc_sparse.proofs.HeldSteps.{AreDown, rows_start, down_room, down_fails, down_more, down_pivot, down_end}
 use Rattle.dc_sparse.proofs.HeldEntries.{held-zero}
@@ -166,7 +166,7 @@ loop-next-smaller c =
     let inside = item_live w.nodes.items n a.next.0.live in
     let in_table = (w.woven.within n a.next.0.live).0 in
     let e : c.row-row.result ≡ row_at w.nodes.items n = c.row-row.ensures ∙ row-read w.nodes.items n c.index.result.now inside c.index.ensures in
-    let le = a.next.0.place in
+    let le = a.next.0.index in
     omega arith
 
 pub loop-next-preserved : goal.loop-next-preserved

@@ -149,8 +149,8 @@ returns-clause-others c =
     let e = c.settle.ensures.others in
     record {
       entries = λ a b ne. e.entries a b ne ∙ held-kept s _ a b (scale-elsewhere s.dens.items c.args.row None a lt ne) (r.others.entries a b ne);
-      stays = λ n a b ne h. e.places.stays n a b (r.others.stays n a b ne h);
-      stood = λ n a b ne h. r.others.stood n a b ne (e.places.stood n a b h);
+      stays = λ n a b ne h. e.cells.stays n a b (r.others.stays n a b ne h);
+      stood = λ n a b ne h. r.others.stood n a b ne (e.cells.stood n a b h);
     }
 
 pub returns-clause-spare : goal.returns-clause-spare

@@ -24,7 +24,7 @@ returns-clause-taken c =
     let t : IsTrue c.divide_row-fits.result = e.fits ∙ divisions_true s.web.nodes.items c.args.row (value c.args.by) (length s.web.col_heads.items) c.requires.fit in
     taken_over s _ c.args.row None c.requires.row refl e.others (value c.args.by)
     (λ k. by_one (entry_at w.nodes.items c.args.row k) ∙ divided-all s.web w c.args.row (value c.args.by) e.width (e.divided t) k)
-    e.places (record { spare = e.spare; arena = e.arena; height = e.height; width = e.width })
+    e.cells (record { spare = e.spare; arena = e.arena; height = e.height; width = e.width })
 
 pub returns-clause-den : goal.returns-clause-den
 returns-clause-den c =

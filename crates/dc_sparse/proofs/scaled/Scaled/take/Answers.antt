@@ -34,4 +34,4 @@ returns-clause-taken c _ =
     (λ k. ap (λ x. x /ℚ value c.in-Some.den) (divided-all s.web w c.args.row (value c.args.share) e.width (e.divided t) k)
     ∙ ap (λ x. (entry_at s.web.nodes.items c.args.row k /ℚ value c.args.share) /ℚ x) c.in-Some.ensures.1
     ∙ both_parted (entry_at s.web.nodes.items c.args.row k) (value c.args.by) (value c.args.share) c.requires.share c.requires.by)
-    e.places (record { spare = e.spare; arena = e.arena; height = e.height; width = e.width })
+    e.cells (record { spare = e.spare; arena = e.arena; height = e.height; width = e.width })

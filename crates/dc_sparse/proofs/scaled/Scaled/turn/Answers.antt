@@ -51,7 +51,7 @@ returns-then-not-divide_row-clause-others c =
     let e : scale_at s.dens.items c.args.row ≡ None = scale-read s.dens.items c.args.row c.index.result.now lt c.index.ensures ∙ c.in-None.is in
     let d = c.divide_row.ensures in
     let q = divisions-held s c.args.row c.args.col c.requires.entry (value c.entry-by.result) (length s.web.col_heads.items) c.entry-by.ensures in
-    others_kept s _ c.args.row refl d.others d.places (record { spare = d.spare; arena = d.arena; height = d.height; width = d.width })
+    others_kept s _ c.args.row refl d.others d.cells (record { spare = d.spare; arena = d.arena; height = d.height; width = d.width })
 
 pub gather-requires-clause-den : goal.gather-requires-clause-den
 gather-requires-clause-den c =
@@ -104,4 +104,4 @@ returns-else-not-divide_row-clause-others c =
     let e : scale_at s.dens.items c.args.row ≡ None = scale-read s.dens.items c.args.row c.index.result.now lt c.index.ensures ∙ c.in-None.is in
     let d = c.divide_row.ensures in
     let q = divisions-held s c.args.row c.args.col c.requires.entry (value c.entry-by.result) (length s.web.col_heads.items) c.entry-by.ensures in
-    others_on s _ c.gather.new.self c.args.row (others_kept s _ c.args.row refl d.others d.places (record { spare = d.spare; arena = d.arena; height = d.height; width = d.width })) c.gather.ensures.others
+    others_on s _ c.gather.new.self c.args.row (others_kept s _ c.args.row refl d.others d.cells (record { spare = d.spare; arena = d.arena; height = d.height; width = d.width })) c.gather.ensures.others

@@ -6,7 +6,7 @@ use Rattle.dc_frac.specs.Value.{value}
 use Rattle.dc_sparse.specs.Webs.{IsVacant}
 use Rattle.dc_sparse.specs.Entries.{entry_at, StandsAt}
 use Rattle.dc_sparse.specs.Scales.{IsWhole}
-use Rattle.dc_sparse.proofs.Cells.{item_live, item-read}
+use Rattle.dc_sparse.proofs.SingleWrites.{item_live, item-read}
 use Rattle.dc_sparse.proofs.Entries.{entry-node, entry-vacant}
 use Rattle.dc_sparse.proofs.Multiples.{difference_small, small_fits, combined_value, taken_value}
 use Rattle.dc_sparse.proofs.web.Web.combination.Goals as goal

@@ -9,7 +9,7 @@ use Rattle.dc_sparse.specs.Nodes.{by_rows, col_at, right_at, item, head_at}
 use Rattle.dc_sparse.specs.Entries.{entry_at, IsPut, takes}
 use Rattle.dc_sparse.specs.Rows.{reduced_entry, IsMultiplied}
 use Rattle.dc_sparse.specs.Scales.{IsWhole}
-use Rattle.dc_sparse.proofs.Cells.{item_live, item-read}
+use Rattle.dc_sparse.proofs.SingleWrites.{item_live, item-read}
 use Rattle.dc_sparse.proofs.Links.{col-read, right-read}
 use Rattle.dc_sparse.proofs.Scaling.{beyond}
 use Rattle.dc_sparse.proofs.Wholes.{whole_zero}
@@ -65,7 +65,7 @@ multiply_to-passage-requires-clause-limit c =
     let h : IsBeside v.nodes.items w.nodes.items c.args.row c.args.pivot c.args.col (of_ℤ c.args.times) (of_ℤ c.args.factor) v.spare w.spare c.loop-source.done c.loop-source.small (Some n) c.loop-source.left = rw c.in-Some.is at b in
     let inside = item_live w.nodes.items n h.next.0.live in
     let e : c.col-at.result ≡ col_at w.nodes.items n = c.col-at.ensures ∙ col-read w.nodes.items n c.index.result.now inside c.index.ensures in
-    (let le = h.next.0.place in omega arith)
+    (let le = h.next.0.index in omega arith)
 
 pub multiply_to-passage-requires-clause-whole : goal.multiply_to-passage-requires-clause-whole
 multiply_to-passage-requires-clause-whole c k le =
@@ -190,7 +190,7 @@ loop-source-smaller c =
     let e : c.col-at.result ≡ col_at w.nodes.items n = c.col-at.ensures ∙ col-read w.nodes.items n c.index.result.now inside c.index.ensures in
     let width = c.loop-source.invariant.width in
     let in_table = (w.woven.within n h.next.0.live).1 in
-    let le = h.next.0.place in
+    let le = h.next.0.index in
     omega arith
 
 pub loop-source-preserved : goal.loop-source-preserved

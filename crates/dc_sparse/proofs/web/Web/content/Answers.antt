@@ -4,7 +4,7 @@ use mir.Syntax.{w128}
 use Rattle.dc_math.specs.Tests.{is_zero}
 use Rattle.dc_sparse.specs.Lines.{IsFirst}
 use Rattle.dc_sparse.specs.Nodes.{by_rows, col_at, right_at, head_at}
-use Rattle.dc_sparse.proofs.Cells.{item_live}
+use Rattle.dc_sparse.proofs.SingleWrites.{item_live}
 use Rattle.dc_sparse.proofs.Links.{col-read, right-read, next_first}
 use Rattle.dc_sparse.proofs.Wholes.{whole_nonzero, neg_nonzero}
 use Rattle.dc_sparse.proofs.web.Web.content.Goals as goal
@@ -54,7 +54,7 @@ loop-next-smaller c =
     let inside = item_live w.nodes.items n f.0.live in
     let in_table = (w.woven.within n f.0.live).1 in
     let e : c.col-at.result ≡ col_at w.nodes.items n = c.col-at.ensures ∙ col-read w.nodes.items n c.index.result.now inside c.index.ensures in
-    let le = f.0.place in
+    let le = f.0.index in
     omega arith
 
 pub loop-next-init : goal.loop-next-init

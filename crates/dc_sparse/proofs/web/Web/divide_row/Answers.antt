@@ -6,7 +6,7 @@ use Rattle.dc_frac.specs.Fits.{quotient_fits}
 use Rattle.dc_frac.specs.Value.{value}
 use Rattle.dc_sparse.specs.Nodes.{col_at, right_at, item, head_at}
 use Rattle.dc_sparse.specs.Entries.{StandsAt, IsPut}
-use Rattle.dc_sparse.proofs.Cells.{item_live, item-read}
+use Rattle.dc_sparse.proofs.SingleWrites.{item_live, item-read}
 use Rattle.dc_sparse.proofs.Links.{col-read, right-read}
 use Rattle.dc_sparse.proofs.Quotients.{IsAcross, dividing_start, quotient-nonzero, across_stands, across_nonzero, across_fails, across_step, across_end}
 use Rattle.dc_sparse.proofs.web.Web.divide_row.Goals as goal
@@ -96,7 +96,7 @@ loop-next-smaller c =
     let e : c.col-at.result ≡ col_at w.nodes.items n = c.col-at.ensures ∙ col-read w.nodes.items n c.index.result.now inside c.index.ensures in
     let width = c.loop-next.invariant.width in
     let in_table = (w.woven.within n a.next.0.live).1 in
-    let le = a.next.0.place in
+    let le = a.next.0.index in
     omega arith
 
 pub loop-next-preserved : goal.loop-next-preserved
@@ -140,8 +140,8 @@ returns-clause-divided c =
     let r = across_end c.args.self.now.nodes.items w.nodes.items c.args.row (value c.args.by) c.loop-next.done (length c.args.self.now.col_heads.items) a c.loop-next.invariant.within in
     λ _. r.divided
 
-pub returns-in-None-clause-places : goal.returns-in-None-clause-places
-returns-in-None-clause-places c = c.loop-next.invariant.across.row.places
+pub returns-in-None-clause-cells : goal.returns-in-None-clause-cells
+returns-in-None-clause-cells c = c.loop-next.invariant.across.row.cells
 
-pub returns-clause-places : goal.returns-clause-places
-returns-clause-places c = c.loop-next.invariant.across.row.places
+pub returns-clause-cells : goal.returns-clause-cells
+returns-clause-cells c = c.loop-next.invariant.across.row.cells

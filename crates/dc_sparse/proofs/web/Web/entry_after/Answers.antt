@@ -2,7 +2,7 @@ use Rattle.std.proofs.Common.{◌≡◌, ◌∙◌, arith, sym}
 use Rattle.dc_frac.specs.Value.{value}
 use Rattle.dc_sparse.specs.Webs.{IsVacant}
 use Rattle.dc_sparse.specs.Entries.{entry_at, StandsAt}
-use Rattle.dc_sparse.proofs.Cells.{item_live, item-read}
+use Rattle.dc_sparse.proofs.SingleWrites.{item_live, item-read}
 use Rattle.dc_sparse.proofs.Entries.{entry-node, entry-vacant}
 use Rattle.dc_sparse.proofs.RowSteps.{reduced_step}
 use Rattle.dc_sparse.proofs.web.Web.entry_after.Goals as goal

@@ -1,6 +1,6 @@
 use Rattle.std.proofs.Common.{◌∙◌, arith, sym}
 use Rattle.dc_sparse.specs.Entries.{StandsAt}
-use Rattle.dc_sparse.proofs.Cells.{item_live, item-read}
+use Rattle.dc_sparse.proofs.SingleWrites.{item_live, item-read}
 use Rattle.dc_sparse.proofs.Entries.{entry-node, entry-vacant}
 use Rattle.dc_sparse.proofs.web.Web.entry_below.Goals as goal
 

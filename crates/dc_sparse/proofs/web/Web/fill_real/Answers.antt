@@ -9,7 +9,7 @@ use Rattle.dc_sparse.proofs.web.Web.fill_real.Goals as goal
 pub loop-left-init : goal.loop-left-init
 loop-left-init c =
     let p = c.args.p.now in
-    let w = c.fill_place-2.new.self in
+    let w = c.fill_cell-2.new.self in
     let es = (c.requires.well_formed.columns c.args.col c.requires.column).entries in
     let ev : entries p c.args.col ≡ c.index.result.now.items = entries-at (λ v. v.items) p.columns.items c.args.col c.index.result.now c.requires.column c.index.ensures in
     let el : length (entries p c.args.col) ≡ length c.index.result.now.items = ap length ev in
@@ -17,15 +17,15 @@ loop-left-init c =
     let most = row_after-rows 0 p.rows (entries p c.args.col) (length (entries p c.args.col)) (omega arith) es in
     record {
       filling = subst (λ k. IsFilling p w.nodes.items (p.rows + 2) (row_after 0 (entries p c.args.col) k) c.args.col) long
-          (filling_last p w.nodes.items (p.rows + 2) c.args.col c.requires.column es c.in_ok-fill_place-2.ensures.ok most);
+          (filling_last p w.nodes.items (p.rows + 2) c.args.col c.requires.column es c.in_ok-fill_cell-2.ensures.ok most);
       arena = λ n g. g;
       within = omega arith;
       height = refl;
       width = refl;
     }
 
-pub fill_place-requires-in-loop-left-clause-row : goal.fill_place-requires-in-loop-left-clause-row
-fill_place-requires-in-loop-left-clause-row c =
+pub fill_cell-requires-in-loop-left-clause-row : goal.fill_cell-requires-in-loop-left-clause-row
+fill_cell-requires-in-loop-left-clause-row c =
     let p = c.args.p.now in
     let w = c.loop-left.self in
     let k = c.loop-left.left - 1 in
@@ -39,8 +39,8 @@ fill_place-requires-in-loop-left-clause-row c =
     let l = n.inside in
     omega arith
 
-pub fill_place-requires-in-loop-left-clause-filling : goal.fill_place-requires-in-loop-left-clause-filling
-fill_place-requires-in-loop-left-clause-filling c =
+pub fill_cell-requires-in-loop-left-clause-filling : goal.fill_cell-requires-in-loop-left-clause-filling
+fill_cell-requires-in-loop-left-clause-filling c =
     let p = c.args.p.now in
     let w = c.loop-left.self in
     let k = c.loop-left.left - 1 in
@@ -68,13 +68,13 @@ loop-left-preserved c =
     let more = c.loop-left-test.true in
     let inside = c.loop-left.invariant.within in
     let n : IsNext 0 p.rows (entries p c.args.col) k x = subst (IsNext 0 p.rows (entries p c.args.col) k) (sym ex) (next 0 p.rows (entries p c.args.col) k x es (omega arith)) in
-    let new = c.fill_place-in-loop-left.new.self in
+    let new = c.fill_cell-in-loop-left.new.self in
     record {
-      filling = filling_next p new.nodes.items (p.rows + 2) c.args.col c.requires.column es k x n c.in_ok-fill_place-3.ensures.ok;
-      arena = λ m g. c.fill_place-in-loop-left.ensures.arena m (c.loop-left.invariant.arena m g);
+      filling = filling_next p new.nodes.items (p.rows + 2) c.args.col c.requires.column es k x n c.in_ok-fill_cell-3.ensures.ok;
+      arena = λ m g. c.fill_cell-in-loop-left.ensures.arena m (c.loop-left.invariant.arena m g);
       within = omega arith;
-      height = c.fill_place-in-loop-left.ensures.height ∙ c.loop-left.invariant.height;
-      width = c.fill_place-in-loop-left.ensures.width ∙ c.loop-left.invariant.width;
+      height = c.fill_cell-in-loop-left.ensures.height ∙ c.loop-left.invariant.height;
+      width = c.fill_cell-in-loop-left.ensures.width ∙ c.loop-left.invariant.width;
     }
 
 pub returns-clause-part : goal.returns-clause-part

@@ -7,7 +7,7 @@ use Rattle.dc_frac.specs.Value.{value}
 use Rattle.dc_sparse.specs.Nodes.{item, col_at}
 use Rattle.dc_sparse.specs.Entries.{IsPut}
 use Rattle.dc_sparse.specs.Scales.{IsWhole}
-use Rattle.dc_sparse.proofs.Cells.{item_live, item-read}
+use Rattle.dc_sparse.proofs.SingleWrites.{item_live, item-read}
 use Rattle.dc_sparse.proofs.Links.{col-read}
 use Rattle.dc_sparse.proofs.Entries.{entry-node, item-live, put_same}
 use Rattle.dc_sparse.proofs.Wholes.{is_zero-*ℚ, whole_nonzero}

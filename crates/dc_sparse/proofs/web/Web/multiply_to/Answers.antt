@@ -5,7 +5,7 @@ use Rattle.dc_math.specs.Rational.{of_ℤ, ◌*ℚ◌}
 use Rattle.dc_sparse.specs.Nodes.{by_rows, col_at, right_at, item, head_at}
 use Rattle.dc_sparse.specs.Entries.{StandsAt, IsPut}
 use Rattle.dc_sparse.specs.Scales.{IsWhole}
-use Rattle.dc_sparse.proofs.Cells.{item_live}
+use Rattle.dc_sparse.proofs.SingleWrites.{item_live}
 use Rattle.dc_sparse.proofs.Links.{left_from, col-read, right-read}
 use Rattle.dc_sparse.proofs.HeldEntries.{same_sizes, sizes_on}
 use Rattle.dc_sparse.proofs.Multiples.{IsPassing, passing_start, passing_entry, passing_step, passing_smaller, passing_ends, passing_small, passing_last}

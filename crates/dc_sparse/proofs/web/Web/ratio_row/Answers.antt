@@ -9,7 +9,7 @@ use Rattle.dc_start.proofs.Ratios.{best-start, candidates-within}
 use Rattle.dc_sparse.specs.Nodes.{row_at, down_at, item, head_at, by_columns}
 use Rattle.dc_sparse.specs.Lines.{IsFirst}
 use Rattle.dc_sparse.specs.Entries.{entry_at}
-use Rattle.dc_sparse.proofs.Cells.{item_live, item-read}
+use Rattle.dc_sparse.proofs.SingleWrites.{item_live, item-read}
 use Rattle.dc_sparse.proofs.Links.{row-read, down-read, next_first, stands_later, last_later}
 use Rattle.dc_sparse.proofs.RatioSteps.{stored, stored_ratios, seek_ends, seek_skip, seek_past, seek_candidate, seek_more}
 use Rattle.dc_sparse.proofs.web.Web.ratio_row.Goals as goal
@@ -65,7 +65,7 @@ above_of-above-requires-clause-from c =
     let f : IsFirst (by_columns w.nodes.items) c.args.col c.loop-next.done (Some n) = rw c.in-Some.is at c.loop-next.invariant.next in
     let inside = item_live w.nodes.items n f.0.live in
     let e : c.row-row.result ≡ row_at w.nodes.items n = c.row-row.ensures ∙ row-read w.nodes.items n c.index.result.now inside c.index.ensures in
-    let le = f.0.place in
+    let le = f.0.index in
     stands_later (by_columns w.nodes.items) (c.args.columns + length c.args.basis.now) c.loop-next.done c.row-row.result c.loop-next.above (omega arith) c.loop-next.invariant.stop
 
 pub returns-in_default-div : goal.returns-in_default-div
@@ -97,7 +97,7 @@ loop-next-smaller c =
     let f : IsFirst (by_columns w.nodes.items) c.args.col c.loop-next.done (Some n) = rw c.in-Some.is at c.loop-next.invariant.next in
     let inside = item_live w.nodes.items n f.0.live in
     let e : c.row-row.result ≡ row_at w.nodes.items n = c.row-row.ensures ∙ row-read w.nodes.items n c.index.result.now inside c.index.ensures in
-    let le = f.0.place in
+    let le = f.0.index in
     let l = c.if-row-basis.false in
     omega arith
 

@@ -6,7 +6,7 @@ use Rattle.dc_sparse.specs.Nodes.{by_rows, col_at, right_at, item, head_at}
 use Rattle.dc_sparse.specs.Entries.{entry_at, IsPut, takes}
 use Rattle.dc_start.specs.Changes.{step_fits}
 use Rattle.dc_sparse.specs.Rows.{reduced_entry}
-use Rattle.dc_sparse.proofs.Cells.{item_live, item-read}
+use Rattle.dc_sparse.proofs.SingleWrites.{item_live, item-read}
 use Rattle.dc_sparse.proofs.Links.{col-read, right-read}
 use Rattle.dc_sparse.proofs.RowSteps.{IsAlong, reducing_start, along_stands, along_room, along_fails, along_step, along_stop, along_end}
 use Rattle.dc_sparse.proofs.web.Web.reduce_row.Goals as goal
@@ -120,7 +120,7 @@ loop-source-smaller c =
     let e : c.col-at.result ≡ col_at w.nodes.items n = c.col-at.ensures ∙ col-read w.nodes.items n c.index.result.now inside c.index.ensures in
     let width = c.loop-source.invariant.width in
     let in_table = (w.woven.within n a.next.0.live).1 in
-    let le = a.next.0.place in
+    let le = a.next.0.index in
     omega arith
 
 pub loop-source-preserved : goal.loop-source-preserved

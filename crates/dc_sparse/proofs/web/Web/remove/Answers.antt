@@ -2,7 +2,7 @@ use Rattle.std.proofs.Common.{◌≡◌, ◌∙◌, sym, ap, length, set, arith,
 use Rattle.dc_frac.specs.Value.{value}
 use Rattle.dc_sparse.specs.declared.web.Node.{Node}
 use Rattle.dc_sparse.specs.Nodes.{by_rows, by_columns, row_at, col_at, IsRelinkedRight, IsRelinkedDown, AreReheaded}
-use Rattle.dc_sparse.proofs.Cells.{item_live, written, IsWritten}
+use Rattle.dc_sparse.proofs.SingleWrites.{item_live, written, IsWritten}
 use Rattle.dc_sparse.proofs.Links.{right-read, down-read, row-read, col-read}
 use Rattle.dc_sparse.proofs.Inserts.{last_in}
 use Rattle.dc_sparse.proofs.FreeCounts.{free_count-at_most}

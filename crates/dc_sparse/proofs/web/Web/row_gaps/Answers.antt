@@ -3,7 +3,7 @@ use Rattle.dc_math.specs.Tests.{is_zero}
 use Rattle.dc_sparse.specs.Lines.{IsLast, StandsBefore}
 use Rattle.dc_sparse.specs.Nodes.{by_rows, col_at, right_at, head_at}
 use Rattle.dc_sparse.specs.Entries.{entry_at}
-use Rattle.dc_sparse.proofs.Cells.{item_live}
+use Rattle.dc_sparse.proofs.SingleWrites.{item_live}
 use Rattle.dc_sparse.proofs.Links.{col-read, right-read}
 use Rattle.dc_sparse.proofs.RowSteps.{IsCounting, counting_start, counting_stop, counting_step, counting_end, row_gaps-most, unit_most}
 use Rattle.dc_sparse.proofs.web.Web.row_gaps.Goals as goal
@@ -57,7 +57,7 @@ loop-source-smaller c =
     let inside = item_live w.nodes.items n a.next.0.live in
     let in_table = (w.woven.within n a.next.0.live).1 in
     let e : c.col-at.result ≡ col_at w.nodes.items n = c.col-at.ensures ∙ col-read w.nodes.items n c.index.result.now inside c.index.ensures in
-    let le = a.next.0.place in
+    let le = a.next.0.index in
     omega arith
 
 pub loop-source-preserved : goal.loop-source-preserved
@@ -88,7 +88,7 @@ overflow_add-count c =
     let n = c.in-Some.node in
     let a : IsCounting w.nodes.items c.args.row c.args.pivot c.loop-source.count c.loop-source.done (Some n) c.loop-source.left = rw c.in-Some.is at c.loop-source.invariant.counting in
     let in_table = (w.woven.within n a.next.0.live).1 in
-    let le = a.next.0.place in
+    let le = a.next.0.index in
     let m = row_gaps-most w.nodes.items c.args.row c.args.pivot c.loop-source.done in
     let q = a.counted in
     let u = unit_most (is_zero (entry_at w.nodes.items c.args.row c.col-at.result)) c.gap_at-count.result c.gap_at-count.ensures in

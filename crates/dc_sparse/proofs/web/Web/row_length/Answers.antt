@@ -2,7 +2,7 @@ use Rattle.std.proofs.Common.{◌≡◌, ◌∙◌, length, arith, Some, None, s
 use Rattle.dc_sparse.specs.Lines.{IsFirst}
 use Rattle.dc_sparse.specs.Nodes.{by_rows, col_at, right_at, head_at}
 use Rattle.dc_sparse.specs.Entries.{entry_at}
-use Rattle.dc_sparse.proofs.Cells.{item_live}
+use Rattle.dc_sparse.proofs.SingleWrites.{item_live}
 use Rattle.dc_sparse.proofs.Links.{col-read, right-read, next_first}
 use Rattle.dc_sparse.proofs.RowSteps.{entries_start, entries_step, entries_end, entries_in-most}
 use Rattle.dc_sparse.proofs.web.Web.row_length.Goals as goal
@@ -17,7 +17,7 @@ overflow_add-count c =
     let f : IsFirst (by_rows w.nodes.items) c.args.row c.loop-next.done (Some n) = rw c.in-Some.is at c.loop-next.invariant.first in
     let inside = item_live w.nodes.items n f.0.live in
     let in_table = (w.woven.within n f.0.live).1 in
-    let le = f.0.place in
+    let le = f.0.index in
     let q = c.loop-next.invariant.counted in
     let m = entries_in-most (entry_at w.nodes.items c.args.row) c.loop-next.done in
     omega (arith, w.col_heads.ok.0)
@@ -58,7 +58,7 @@ loop-next-smaller c =
     let inside = item_live w.nodes.items n f.0.live in
     let in_table = (w.woven.within n f.0.live).1 in
     let e : c.col-at.result ≡ col_at w.nodes.items n = c.col-at.ensures ∙ col-read w.nodes.items n c.index.result.now inside c.index.ensures in
-    let le = f.0.place in
+    let le = f.0.index in
     omega arith
 
 pub loop-next-preserved : goal.loop-next-preserved

@@ -1,6 +1,6 @@
 use Rattle.std.proofs.Common.{arith, refl}
 use Rattle.dc_frac.specs.Value.{value}
-use Rattle.dc_sparse.proofs.Cells.{item_live, revalued}
+use Rattle.dc_sparse.proofs.SingleWrites.{item_live, revalued}
 use Rattle.dc_sparse.proofs.Smalls.{small_kept}
 use Rattle.dc_sparse.proofs.Values.{woven_same, put_revalued, stays_revalued}
 use Rattle.dc_sparse.proofs.web.Web.set.Goals as goal

@@ -1,6 +1,6 @@
 use Rattle.std.proofs.Common.{◌∙◌, not, arith, sym, ap}
 use Rattle.dc_math.specs.Tests.{is_zero}
-use Rattle.dc_sparse.proofs.Cells.{item-read}
+use Rattle.dc_sparse.proofs.SingleWrites.{item-read}
 use Rattle.dc_sparse.proofs.Links.{row-read, col-read}
 use Rattle.dc_sparse.proofs.web.Web.stands_before.Goals as goal
 
@@ -14,5 +14,5 @@ returns c holds =
     record {
       live = ap (λ q. not (is_zero q)) (sym (item-read w.nodes.items n x c.requires c.index-node.ensures)) ∙ ap not (sym c.is_zero.ensures) ∙ holds;
       line = sym (c.col.ensures ∙ col-read w.nodes.items n x c.requires c.index-node.ensures) ∙ c.if-col.false;
-      place = omega arith;
+      index = omega arith;
     }

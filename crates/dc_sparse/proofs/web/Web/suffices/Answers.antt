@@ -1,7 +1,7 @@
 use Rattle.std.proofs.Common.{◌≡◌, ◌≤◌, ◌+◌, ◌∙◌, length, arith, Some, None, refl, sym}
 use Rattle.dc_sparse.specs.Nodes.{row_at, down_at, head_at}
 use Rattle.dc_sparse.specs.Rows.{row_gaps, rows_gaps}
-use Rattle.dc_sparse.proofs.Cells.{item_live}
+use Rattle.dc_sparse.proofs.SingleWrites.{item_live}
 use Rattle.dc_sparse.proofs.Links.{row-read, down-read}
 use Rattle.dc_sparse.proofs.ColumnSteps.{AreCounted, counted_pivot, counted_more, counted_entry, counted_end, counted_so_far}
 use Rattle.dc_sparse.proofs.web.Web.suffices.Goals as goal
@@ -49,7 +49,7 @@ loop-next-smaller c =
     let inside = item_live w.nodes.items n a.next.0.live in
     let in_table = (w.woven.within n a.next.0.live).0 in
     let e : c.row-row.result ≡ row_at w.nodes.items n = c.row-row.ensures ∙ row-read w.nodes.items n c.index.result.now inside c.index.ensures in
-    let le = a.next.0.place in
+    let le = a.next.0.index in
     omega arith
 
 pub loop-next-preserved : goal.loop-next-preserved

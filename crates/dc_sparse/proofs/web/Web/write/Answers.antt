@@ -5,8 +5,8 @@ use Rattle.dc_frac.specs.Value.{value}
 use Rattle.dc_sparse.specs.Nodes.{is_live}
 use Rattle.dc_sparse.specs.Webs.{IsVacant}
 use Rattle.dc_sparse.specs.Entries.{entry_at, StandsAt, IsPut}
-use Rattle.dc_sparse.proofs.Cells.{item_live}
-use Rattle.dc_sparse.proofs.Entries.{entry-vacant, put_placed, put_cleared, put_same, takes_one, takes-zero, takes-entry, takes-both, vacant-zero, stands-nonzero}
+use Rattle.dc_sparse.proofs.SingleWrites.{item_live}
+use Rattle.dc_sparse.proofs.Entries.{entry-vacant, put_seated, put_cleared, put_same, takes_one, takes-zero, takes-entry, takes-both, vacant-zero, stands-nonzero}
 use Rattle.dc_sparse.proofs.web.Web.write.Goals as goal
 
 pub insert-requires-clause-spare : goal.insert-requires-clause-spare
@@ -66,9 +66,9 @@ returns-else-is_zero-2-clause-entry c =
     let w = c.args.self.now in
     let v = c.insert.new.self in
     let nz : is_zero (value c.args.entry) ≡ false = sym c.is_zero-in-None.ensures ∙ c.if-is_zero-2.false in
-    let p = c.insert.ensures.placed in
+    let p = c.insert.ensures.seated in
     let l : is_live v.nodes.items c.insert.result ≡ true = ap (λ q. not (is_zero q)) p.item ∙ ap not nz in
-    put_placed w.nodes.items v.nodes.items c.insert.result c.args.row c.args.col (value c.args.entry) (item_live v.nodes.items c.insert.result l) v.woven.apart nz p
+    put_seated w.nodes.items v.nodes.items c.insert.result c.args.row c.args.col (value c.args.entry) (item_live v.nodes.items c.insert.result l) v.woven.apart nz p
 
 pub returns-else-is_zero-2-clause-spare : goal.returns-else-is_zero-2-clause-spare
 returns-else-is_zero-2-clause-spare c =

@@ -9,10 +9,10 @@ use Rattle.dc_lp.specs.Tables.{Table, at, right}
 use Rattle.dc_pivots.specs.Runs.{State, Phase, Pivot, due_at, run}
 use Rattle.dc_pivots.specs.FieldLaws.{IsFeasible}
 use Rattle.dc_pivots.specs.FieldLaws as laws
-use Rattle.dc_pivots.specs.Laws.{PivotsHavePlaces}
+use Rattle.dc_pivots.specs.Laws.{PivotsHaveCells}
 use Rattle.dc_lp.proofs.Chosen.{zero-is}
 use Rattle.dc_pivots.proofs.Choices.{move}
-use Rattle.dc_pivots.proofs.Kept.{Kept, IsPlace, place}
+use Rattle.dc_pivots.proofs.Kept.{Kept, IsCell, cell}
 use Rattle.dc_pivots.proofs.Whole.{G, C, IsReached, run-is, kept}
 
 module _ (Q : Type 0) (F : Field Q) (p : Linear Q) where
@@ -37,23 +37,23 @@ module _ (Q : Type 0) (F : Field Q) (p : Linear Q) where
       }
 
   -- where a pivot is due
-  record IsPlaceOf (a : State Q) (r j : ℕ) : Type 0 where
+  record IsCellOf (a : State Q) (r j : ℕ) : Type 0 where
     row : r < length a.table.basis
     column : j < a.table.real
     nonzero : at Q F a.table r j ≢ F.zero_q
 
-  place-of : (x : ℕ) (a : State Q) (q : Phase) (r j : ℕ) → run Q F p x ≡ Some a → due_at Q F a ≡ Pivot q r j → IsPlaceOf a r j
-  place-of x a q r j e d =
+  cell-of : (x : ℕ) (a : State Q) (q : Phase) (r j : ℕ) → run Q F p x ≡ Some a → due_at Q F a ≡ Pivot q r j → IsCellOf a r j
+  cell-of x a q r j e d =
       let k : Kept Q F p a.phase a.table (G Q F p x) (C Q F p x) = (here x a e).keeps in
-      let y : IsPlace Q F p (G Q F p x) r j = place Q F p a.phase q a.table (G Q F p x) (C Q F p x) r j k.shadow (move Q F a.phase a.table q r j d) in
+      let y : IsCell Q F p (G Q F p x) r j = cell Q F p a.phase q a.table (G Q F p x) (C Q F p x) r j k.shadow (move Q F a.phase a.table q r j d) in
       let long : length a.table.basis ≡ p.equations = k.shadow.long in
       let real : a.table.real ≡ p.columns = k.shadow.real in
       let lr : r < p.equations = y.row in
       let lj : j < p.columns = y.column in
       record { row = omega arith; column = omega arith; nonzero = λ z. y.nonzero (sym (k.shadow.entries r j (omega arith) (omega arith)) ∙ z) }
 
-pub pivots_have_places : PivotsHavePlaces
-pivots_have_places p n s q r j e d =
-    let y = place-of ℚ rationals p n s q r j e d in
+pub pivots_have_cells : PivotsHaveCells
+pivots_have_cells p n s q r j e d =
+    let y = cell-of ℚ rationals p n s q r j e d in
     let l : j < s.table.real = y.column in
     (record { row = y.row; column = omega arith; nonzero = false_from_ne_true _ (λ z. y.nonzero (zero-is ℚ rationals (at ℚ rationals s.table r j) z)) }, l)

@@ -4,7 +4,7 @@ use Rattle.dc_sparse.specs.declared.web.Node.{Node}
 use Rattle.dc_sparse.specs.Fills.{IsPartOf}
 use Rattle.dc_sparse.proofs.StartTables.{filling-part}
 use Rattle.dc_sparse.proofs.Fillings.{filling_more}
-use Rattle.dc_sparse.proofs.web.Web.fill_place.Goals as goal
+use Rattle.dc_sparse.proofs.web.Web.fill_cell.Goals as goal
 
 pub returns-clause-ok : goal.returns-clause-ok
 returns-clause-ok c =
