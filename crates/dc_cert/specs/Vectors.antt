@@ -1,5 +1,6 @@
 -- Sparse vectors: their items, and the vector that they stand for.
-use Rattle.std.specs.Prelude.{◌≡◌, ℕ, suc, ◌≤◌, ◌<◌, eqb, cond, List, [], ◌∷◌, length, All, slice_index_or, pos, IsFalse}
+use Rattle.std.specs.Prelude.{◌≡◌, ℕ, suc, ◌≤◌, ◌<◌, Bool, eqb, ltb, cond, List, [], ◌∷◌, length, All, slice_index_or, pos, IsFalse}
+use Rattle.std.specs.List.{list_all}
 use Rattle.dc_math.specs.Rational.{ℚ, of_ℤ}
 use Rattle.dc_math.specs.Tests.{is_zero}
 use Rattle.dc_frac.specs.declared.Frac.{Frac}
@@ -34,6 +35,10 @@ nonzero_from k (f ∷ fs) =
 -- ---- to a whole vector
 abbrev pub IsBelow : ℕ → Item → Type 0
 IsBelow n i = i.index < n
+
+-- the same as a test, of each index
+abbrev pub in_range : ℕ → Sparse → Bool
+in_range n s = list_all (λ (i : Item). ltb i.index n) s.items
 
 -- the value of the last item with this index, x where there is none
 abbrev pub entry_after : ℚ → List Item → ℕ → ℚ

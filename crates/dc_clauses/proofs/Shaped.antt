@@ -8,12 +8,13 @@ use Rattle.dc_affine.specs.declared.atom.Atom.{Atom}
 use Rattle.dc_system.specs.declared.edges.Edge.{Edge}
 use Rattle.dc_system.specs.declared.edges.System.{System}
 use Rattle.dc_system.specs.Shapes as shapes
+use Rattle.dc_cert.specs.Vectors.{in_range}
 use Rattle.dc_cert.specs.declared.certificate.EdgeCert.{EdgeCert}
 use Rattle.dc_cert.specs.declared.certificate.SideCert.{SideCert}
 use Rattle.dc_cert.specs.declared.sparse.Sparse.{Sparse}
 use Rattle.dc_cert.specs.declared.certificate.Liveness.{Liveness}
 use Rattle.dc_cert.specs.Ranges.{AreAtoms, IsEdge, IsSide, is_live}
-use Rattle.dc_clauses.specs.Lines.{in_range, line_in_range}
+use Rattle.dc_clauses.specs.Lines.{line_in_range}
 use Rattle.dc_clauses.specs.Sides.{paired, atoms_at, edge_atoms, edge_places, is_full, has_keeps, entry_fits, edge_fits, shape_fits, exit_atoms}
 use Rattle.dc_clauses.specs.Lent.{IsPart, IsShaped, IsEdgePart, keeps_fit, entry_fits_cases}
 

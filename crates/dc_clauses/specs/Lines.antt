@@ -1,6 +1,6 @@
 -- What the lines of a certificate show of atoms.
-use Rattle.std.specs.Prelude.{ℕ, ◌+◌, Bool, ltb, eqb, if◌then◌else◌, List, [], ◌∷◌, ◌++◌, map, length, ℤ, pos, negsuc, Option, Some}
-use Rattle.std.specs.List.{range_with_len, list_all}
+use Rattle.std.specs.Prelude.{ℕ, ◌+◌, Bool, eqb, if◌then◌else◌, List, [], ◌∷◌, ◌++◌, map, length, ℤ, pos, negsuc, Option, Some}
+use Rattle.std.specs.List.{range_with_len}
 use Rattle.std.specs.Option.{option_map}
 use Rattle.dc_math.specs.Rational.{ℚ, of_ℤ, le_ℚ}
 use Rattle.dc_math.specs.Tests.{eq_ℚ, is_negative, is_positive}
@@ -11,7 +11,7 @@ use Rattle.dc_cert.specs.declared.sparse.Item.{Item}
 use Rattle.dc_cert.specs.declared.sparse.Sparse.{Sparse}
 use Rattle.dc_cert.specs.declared.certificate.Liveness.{Liveness}
 use Rattle.dc_cert.specs.declared.certificate.Liveness.TheVariants.{Dead, Live}
-use Rattle.dc_cert.specs.Vectors.{entry_of}
+use Rattle.dc_cert.specs.Vectors.{entry_of, in_range}
 use Rattle.dc_points.specs.Stated.{atom_number, coefficient_of}
 use Rattle.dc_clauses.specs.Steps.{Test}
 
@@ -19,10 +19,6 @@ use Rattle.dc_clauses.specs.Steps.{Test}
 -- the value at an index, 0 where there is no item
 abbrev pub at : Sparse → ℕ → ℚ
 at v k = entry_of v.items k
-
--- each index is below n
-abbrev pub in_range : ℕ → Sparse → Bool
-in_range n v = list_all (λ (i : Item). ltb i.index n) v.items
 
 -- each item is positive, in order
 abbrev pub signs : Sparse → List Test

@@ -5,6 +5,7 @@ use Rattle.std.specs.Option.{option_map}
 use Rattle.dc_math.specs.Rational.{ℚ}
 use Rattle.dc_math.specs.Tests.{eq_ℚ, is_negative, is_positive}
 use Rattle.dc_frac.specs.Value.{value}
+use Rattle.dc_cert.specs.Vectors.{in_range}
 use Rattle.dc_lp.specs.declared.Problem.{Problem}
 use Rattle.dc_lp.specs.Linear.{Linear}
 use Rattle.dc_lp.specs.Problems.{coefficient, whole_at}
@@ -14,7 +15,7 @@ use Rattle.dc_cert.specs.declared.sparse.Sparse.{Sparse}
 use Rattle.dc_cert.specs.declared.certificate.Body.{Body}
 use Rattle.dc_cert.specs.declared.certificate.Body.TheVariants.{Threshold, Nothing, Vacuous}
 use Rattle.dc_clauses.specs.Steps.{Test, all_of, Step, step, counted}
-use Rattle.dc_clauses.specs.Lines.{at, in_range, is, is_at_most}
+use Rattle.dc_clauses.specs.Lines.{at, is, is_at_most}
 
 -- a problem by columns, in whole numbers
 abbrev pub whole_problem : Problem → Linear ℤ

@@ -5,6 +5,7 @@ use Rattle.dc_affine.specs.declared.atom.Atom.{Atom}
 use Rattle.dc_system.specs.declared.edges.Edge.{Edge}
 use Rattle.dc_system.specs.declared.edges.System.{System}
 use Rattle.dc_system.specs.After.{atom_after, is_affine_after}
+use Rattle.dc_cert.specs.Vectors.{in_range}
 use Rattle.dc_cert.specs.declared.sparse.Sparse.{Sparse}
 use Rattle.dc_cert.specs.declared.certificate.Liveness.{Liveness}
 use Rattle.dc_cert.specs.declared.certificate.EdgeCert.{EdgeCert}
@@ -12,7 +13,7 @@ use Rattle.dc_cert.specs.declared.certificate.SideCert.{SideCert}
 use Rattle.dc_cert.specs.declared.certificate.Certificate.{Certificate}
 use Rattle.dc_cert.specs.Ranges.{is_live}
 use Rattle.dc_clauses.specs.Steps.{Test, all_of, Step, counted}
-use Rattle.dc_clauses.specs.Lines.{in_range, line_parts, line_in_range, keep_parts}
+use Rattle.dc_clauses.specs.Lines.{line_parts, line_in_range, keep_parts}
 
 -- two lists, item by item; what one of them has more is left out
 abbrev pub paired : {A B C : Type 0} → (A → B → C) → List A → List B → List C
