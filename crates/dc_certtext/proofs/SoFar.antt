@@ -39,10 +39,14 @@ abbrev pub closed : Head → SideCert → SideCert → List Bytes
 closed h n o = (between h n ++ codes "side old" ∷ []) ++ side_lines h.version o
 
 abbrev pub found_lines : Found → List Bytes
-found_lines F.None = []
-found_lines (F.One u) = vector_line (codes "unknown") u ∷ []
-found_lines (F.Two u l) = vector_line (codes "unknown") u ∷ vector_line (codes "lambda") l ∷ []
-found_lines (F.Three u l r) = vector_line (codes "unknown") u ∷ vector_line (codes "lambda") l ∷ vector_line (codes "ray unknown") r ∷ []
+found_lines (F.Threshold t) = []
+found_lines (F.ThresholdUnknown t u) = vector_line (codes "unknown") u ∷ []
+found_lines (F.ThresholdLambda t u l) = vector_line (codes "unknown") u ∷ vector_line (codes "lambda") l ∷ []
+found_lines F.Nothing = []
+found_lines F.Vacuous = []
+found_lines (F.VacuousUnknown u) = vector_line (codes "unknown") u ∷ []
+found_lines (F.VacuousLambda u l) = vector_line (codes "unknown") u ∷ vector_line (codes "lambda") l ∷ []
+found_lines (F.VacuousRay u l r) = vector_line (codes "unknown") u ∷ vector_line (codes "lambda") l ∷ vector_line (codes "ray unknown") r ∷ []
 
 -- a certificate's head
 abbrev pub head_of : Certificate → Head
