@@ -12,11 +12,7 @@ use Rattle.dc_cert.specs.declared.certificate.Liveness.{Liveness}
 use Rattle.dc_cert.specs.declared.certificate.Liveness.TheVariants.{Dead, Live}
 use Rattle.dc_cert.specs.Vectors.{AreItems, IsVector}
 use Rattle.dc_cert.specs.Ranges.{IsShown}
-use Rattle.dc_cert.specs.declared.certificate.SideCert.{SideCert}
-use Rattle.dc_certtext.specs.declared.stage.Head.{Head}
 use Rattle.dc_certtext.specs.declared.stage.Stage.{Stage}
-use Rattle.dc_cert.specs.declared.certificate.Claim.{Claim}
-use Rattle.dc_cert.specs.declared.certificate.Claim.TheVariants as C
 use Rattle.dc_certtext.specs.declared.stage.Stage.TheVariants.{Start, Whole, Version, Sizes, Cases, Heads, Opened, Locations, Entries, Edges, Between, Closed, Main, End, Done}
 use Rattle.dc_lines.specs.Bytes.{Bytes, spaced}
 use Rattle.dc_certtext.specs.Words.{item_text, frac_text, vector_text, atom_text}

@@ -3,11 +3,8 @@ use Rattle.std.specs.Prelude.{◌≡◌, ℕ, suc, ◌+◌, List, [], ◌∷◌,
 use Rattle.std.proofs.Common.{sym, ◌∙◌, ap, arith, append_assoc}
 use Rattle.std.proofs.lemmas.List.{append-nil}
 use Rattle.dc_cert.specs.declared.certificate.SideCert.{SideCert}
-use Rattle.dc_cert.specs.declared.certificate.Body.{Body}
-use Rattle.dc_cert.specs.declared.certificate.Body.TheVariants as B
 use Rattle.dc_cert.specs.declared.certificate.Certificate.{Certificate}
 use Rattle.dc_cert.specs.declared.certificate.Claim.{Claim}
-use Rattle.dc_cert.specs.declared.certificate.Claim.TheVariants as C
 use Rattle.dc_certtext.specs.declared.stage.Head.{Head}
 use Rattle.dc_certtext.specs.declared.stage.Found.{Found}
 use Rattle.dc_certtext.specs.declared.stage.Found.TheVariants as F
@@ -15,7 +12,7 @@ use Rattle.dc_certtext.specs.declared.stage.Stage.{Stage}
 use Rattle.dc_certtext.specs.declared.stage.Stage.TheVariants.{Start, Whole, Version, Sizes, Cases, Heads, Opened, Locations, Entries, Edges, Between, Closed, Main, End, Done}
 use Rattle.dc_lines.specs.Bytes.{Bytes}
 use Rattle.dc_cert.specs.Claims.{claim_of}
-use Rattle.dc_certtext.specs.Text.{claim_lines, vector_line, shown_line, numbered, threshold_line, whole_line, sizes_line, groups, location_lines, entry_lines, edge_lines, side_lines, cases_lines, body_lines, lines_of}
+use Rattle.dc_certtext.specs.Text.{claim_lines, vector_line, shown_line, numbered, threshold_line, sizes_line, groups, location_lines, entry_lines, edge_lines, side_lines, cases_lines, body_lines, lines_of}
 use Rattle.dc_certtext.specs.Stages.{head, edge_of}
 
 -- ---- lists with something behind them
