@@ -36,7 +36,7 @@ nonzero_from k (f ∷ fs) =
 abbrev pub IsBelow : ℕ → Item → Type 0
 IsBelow n i = i.index < n
 
--- the same as a test, of each index
+-- whether each index is below n, as a test
 abbrev pub in_range : ℕ → Sparse → Bool
 in_range n s = list_all (λ (i : Item). ltb i.index n) s.items
 
@@ -50,7 +50,7 @@ entry_of is k = entry_after (of_ℤ (pos 0)) is k
 
 -- one fraction for each index below n, that of the item with the index, 0 where there is none
 pub record IsDense (n : ℕ) (s : Sparse) (v : List Frac) : Type 0 where
-  pub places : length v ≡ n
+  pub count : length v ≡ n
   pub entries : (k : ℕ) (d : Frac) → k < n → value (slice_index_or v k d) ≡ entry_of s.items k
 
 -- the items of a vector keep each value at its index

@@ -33,7 +33,8 @@ part n a i = if eqb i n then a.c0 else coefficient_of a i
 abbrev pub part_sum : List Atom → ℕ → Sparse → ℕ → Option ℚ
 part_sum hyps n v i = folded (length hyps) (λ j. part n (atom_number hyps j) i) (at v)
 
--- the product of a vector with the parts of an atom, which are the atom's column of the empty problem
+-- the product of a vector with the parts of an atom, which are the atom's column of the empty
+-- problem
 abbrev pub column_sum : List Atom → ℕ → Sparse → ℕ → Option ℚ
 column_sum hyps n y j = folded (n + 1) (part n (atom_number hyps j)) (at y)
 
@@ -68,7 +69,8 @@ abbrev pub line_in_range : ℕ → ℕ → Liveness → Bool
 line_in_range atoms n (Dead v) = in_range atoms v
 line_in_range atoms n (Live y) = in_range (n + 1) y
 
--- ---- a keep: positive multipliers, whose sum has the atom's coefficients and a constant of at most the atom's; `more` is tested in between
+-- ---- a keep: positive multipliers, whose sum has the atom's coefficients and a constant of at
+-- most the atom's; `more` is tested in between
 abbrev pub keep_parts : List Atom → ℕ → Atom → List Test → Sparse → List Test
 keep_parts hyps n a more v =
     signs v ++ (more ++ (coefficient_parts hyps n v (coefficient_of a)

@@ -54,7 +54,8 @@ module _ (main : Linear ℤ) (u : ℕ) where
   abbrev pub right_fold : Sparse → Option ℚ
   right_fold dual = folded main.equations main.right_side (at dual)
 
-  -- ---- clause 7: the items are in range; 0 unknown, 1 lambda, 2 the ray's unknown, 3 the ray's lambda, 4 dual
+  -- ---- clause 7: the items are in range; 0 unknown, 1 lambda, 2 the ray's unknown, 3 the ray's
+  -- lambda, 4 dual
   abbrev pub range_step : ℕ → ℕ → Sparse → Step
   range_step k n v = step 7 k (Some (in_range n v))
 
@@ -66,7 +67,8 @@ module _ (main : Linear ℤ) (u : ℕ) where
       range_step 0 u unknown ∷ range_step 1 multipliers lambda ∷ range_step 2 u ray_unknown
       ∷ range_step 3 multipliers ray_lambda ∷ []
 
-  -- ---- clause 8: each item of lambda, then of the ray's lambda, is positive; the index is the item's
+  -- ---- clause 8: each item of lambda, then of the ray's lambda, is positive; the index is the
+  -- item's
   abbrev pub sign_step : Item → Step
   sign_step i = step 8 i.index (Some (is_positive (value i.value)))
 
@@ -87,7 +89,8 @@ module _ (main : Linear ℤ) (u : ℕ) where
   equation_tests (Vacuous unknown lambda ray_unknown ray_lambda) =
       map (equation_test main.right_side unknown lambda) (range_with_len 0 main.equations)
 
-  -- ---- clause 10: dual times the column of an unknown is its cost, times that of a multiplier at most 0; for `none` the costs count as 0
+  -- ---- clause 10: dual times the column of an unknown is its cost, times that of a multiplier at
+  -- most 0; for `none` the costs count as 0
   abbrev pub price_test : (ℕ → ℤ) → Sparse → ℕ → Test
   price_test cost dual k =
       if ltb k u then is (price_fold dual k) (cost (short_column k)) else is_at_most
@@ -99,7 +102,8 @@ module _ (main : Linear ℤ) (u : ℕ) where
   price_tests (Nothing dual) = map (price_test (λ j. pos 0) dual) (range_with_len 0 (u + multipliers))
   price_tests (Vacuous unknown lambda ray_unknown ray_lambda) = []
 
-  -- ---- clause 11: the threshold is unknown 0, and then dual times the right sides; for `none` the latter is positive
+  -- ---- clause 11: the threshold is unknown 0, and then dual times the right sides; for `none`
+  -- the latter is positive
   abbrev pub threshold_tests : Body → List Test
   threshold_tests (Threshold t unknown lambda dual) =
       all_of (Some (eq_ℚ (value t) (at unknown 0))
