@@ -1,7 +1,7 @@
 -- What the shape of a certificate's part gives.
 use Rattle.std.specs.Prelude.{◌≡◌, ℕ, zero, suc, ◌<◌, ◌≤◌, ◌&&◌, Bool, true, false, eqb, leb, if◌then◌else◌, List, [], ◌∷◌, length}
-use Rattle.std.specs.List.{AllByRecursion, list_all}
-use Rattle.std.proofs.Common.{refl, sym, ◌∙◌, ap, subst, arith, get_or, length-append}
+use Rattle.std.specs.List.{list_all}
+use Rattle.std.proofs.Common.{refl, ◌∙◌, ap, arith, get_or, length-append}
 use Rattle.std.proofs.lemmas.Bool.{and_parts, and_from, eqb-true, leb-true, le-leb}
 use Rattle.dc_math.specs.Members.{each_at_or, each_is}
 use Rattle.dc_affine.specs.declared.atom.Atom.{Atom}
