@@ -11,6 +11,7 @@ use Rattle.dc_math.specs.Tests.{eq_ℚ, is_positive, eq_ℚ-true, lt_ℚ-true}
 use Rattle.dc_math.specs.Sums.{sum_ℚ, sum_ℚ_same, sum_ℚ-neg_ℚ}
 use Rattle.dc_frac.specs.declared.Frac.{Frac}
 use Rattle.dc_frac.specs.Value.{value}
+use Rattle.dc_cert.specs.Vectors.{in_range}
 use Rattle.dc_lp.specs.Linear.{Linear, left_side, combined}
 use Rattle.dc_lp.specs.Tables.{Table}
 use Rattle.dc_pivots.specs.declared.Ending.{Ending}
@@ -25,7 +26,7 @@ use Rattle.dc_cert.specs.declared.sparse.Sparse.{Sparse}
 use Rattle.dc_cert.specs.declared.certificate.Body.{Body}
 use Rattle.dc_cert.specs.declared.certificate.Body.TheVariants.{Threshold, Nothing, Vacuous}
 use Rattle.dc_clauses.specs.Steps.{counted}
-use Rattle.dc_clauses.specs.Lines.{at, in_range, is, is_at_most}
+use Rattle.dc_clauses.specs.Lines.{at, is, is_at_most}
 use Rattle.dc_clauses.specs.Mains.{multipliers, short_column, short_coefficient, short_value, price_fold, right_fold, range_steps, sign_step, sign_steps, equation_test, equation_tests, price_test, price_tests, threshold_tests, ray_tests, fall_tests, claim_steps}
 use Rattle.dc_mainlines.specs.Paired.{IsPaired}
 use Rattle.dc_mainlines.proofs.Pairs.{behind, behind-is}

@@ -12,12 +12,12 @@ use Rattle.dc_lp.specs.Linear.{Linear}
 use Rattle.dc_simplex.specs.Outcomes.{solution_at, multiplier_at}
 use Rattle.dc_cert.specs.declared.sparse.Item.{Item}
 use Rattle.dc_cert.specs.declared.sparse.Sparse.{Sparse}
-use Rattle.dc_cert.specs.Vectors.{nonzero_from, entry_of}
+use Rattle.dc_cert.specs.Vectors.{nonzero_from, entry_of, in_range}
 use Rattle.dc_points.specs.Stated.{rational}
 use Rattle.dc_invariant.specs.Shown.{IsSolutionOf, IsRefutationOf}
 use Rattle.dc_invariant.proofs.Vectors.{entry_is}
 use Rattle.dc_session.specs.Made.{AreItemsOf}
-use Rattle.dc_clauses.specs.Lines.{at, in_range, signs}
+use Rattle.dc_clauses.specs.Lines.{at, signs}
 use Rattle.dc_acceptance.proofs.Passing.{AllPass}
 
 -- ---- numbers that are neither 0 nor negative

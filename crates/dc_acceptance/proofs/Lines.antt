@@ -8,6 +8,7 @@ use Rattle.dc_math.specs.Rational.{ℚ, of_ℤ, ◌≤ℚ◌, ◌*ℚ◌, *ℚ_c
 use Rattle.dc_math.specs.Tests.{is_negative, lt_ℚ-true}
 use Rattle.dc_math.specs.Sums.{sum_ℚ, sum_ℚ_same}
 use Rattle.dc_affine.specs.declared.atom.Atom.{Atom}
+use Rattle.dc_cert.specs.Vectors.{in_range}
 use Rattle.dc_lp.specs.Linear.{combined}
 use Rattle.dc_cert.specs.declared.sparse.Sparse.{Sparse}
 use Rattle.dc_cert.specs.declared.certificate.Liveness.{Liveness}
@@ -16,7 +17,7 @@ use Rattle.dc_points.specs.Stated.{rational, atom_number, coefficient_of, empty_
 use Rattle.dc_points.specs.Shown.{sum_at, constant_sum, ShowsAtom, ShowsDead, ShowsLive}
 use Rattle.dc_invariant.specs.Shown.{IsKeep, AreKeeps, IsLine}
 use Rattle.dc_clauses.specs.Steps.{Test}
-use Rattle.dc_clauses.specs.Lines.{at, in_range, signs, part, part_sum, column_sum, is, is_at_most, coefficient_parts, dead_parts, live_parts, line_parts, line_in_range, keep_parts}
+use Rattle.dc_clauses.specs.Lines.{at, signs, part, part_sum, column_sum, is, is_at_most, coefficient_parts, dead_parts, live_parts, line_parts, line_in_range, keep_parts}
 use Rattle.dc_clauses.specs.Sides.{paired}
 use Rattle.dc_acceptance.proofs.Passing.{Passes, AllPass, pass_both, numbered_pass, none_pass}
 use Rattle.dc_acceptance.proofs.Sums.{is_passes, at_most_passes}

@@ -11,6 +11,7 @@ use Rattle.dc_system.specs.declared.edges.Edge.{Edge}
 use Rattle.dc_system.specs.declared.edges.System.{System}
 use Rattle.dc_system.specs.Shapes.{IsWellFormed}
 use Rattle.dc_system.specs.After.{is_affine_after, atom_after}
+use Rattle.dc_cert.specs.Vectors.{in_range}
 use Rattle.dc_cert.specs.declared.sparse.Sparse.{Sparse}
 use Rattle.dc_cert.specs.declared.certificate.Liveness.{Liveness}
 use Rattle.dc_cert.specs.declared.certificate.EdgeCert.{EdgeCert}
@@ -27,7 +28,7 @@ use Rattle.dc_families.proofs.Lists.{differ}
 use Rattle.dc_families.proofs.Tests.{has_among, among_has}
 use Rattle.dc_invariant.specs.Keeps.{AreEntryKeeps, AreEdgeParts, IsSidePart}
 use Rattle.dc_session.specs.Made.{AreCaseLines}
-use Rattle.dc_clauses.specs.Lines.{in_range, line_in_range, line_parts, keep_parts}
+use Rattle.dc_clauses.specs.Lines.{line_in_range, line_parts, keep_parts}
 use Rattle.dc_clauses.specs.Sides.{paired, joined, atoms_at, edge_atoms, exit_atoms, edge_places, is_full, has_keeps, entry_fits, edge_fits, shape_fits, case_test, numbered_case, case_tests, entry_test, entry_tests, edge_test, edge_tests, keep_test, keep_tests, exit_test}
 use Rattle.dc_acceptance.proofs.Passing.{Passes, AllPass, pass_both, all_pass, numbered_pass}
 use Rattle.dc_acceptance.proofs.Lines.{line_passes, line_ranges, keep_passes, keeps_many, keeps_range, flagged_pass}

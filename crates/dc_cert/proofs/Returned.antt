@@ -46,8 +46,8 @@ data Where (m k : ℕ) : Type 0 where
   here : k ≡ m → Where m k
   behind : suc m ≤ k → Where m k
 
-place : (m k : ℕ) → m ≤ k → Where m k
-place m k h = by (eqb k m) refl
+where_is : (m k : ℕ) → m ≤ k → Where m k
+where_is m k h = by (eqb k m) refl
   where
     by : (b : Bool) → eqb k m ≡ b → Where m k
     by true e = here (eqb-true k m e)
@@ -58,7 +58,7 @@ unfolding Agree
 returned m [] [] h b a = refl
 returned m [] (i ∷ is) h b a = absurd (let x : i.index < m + 0 = b 0 i (omega arith) in let y = h.0 in omega arith)
 returned m (f ∷ v) [] h b a = zero_first m f v [] (first m f v [] a) (returned (suc m) v [] tt (λ k d l. absurd (omega arith)) (later m f v [] a))
-returned m (f ∷ v) (i ∷ is) h b a = by (place m i.index h.0) (λ js x y z. returned (suc m) v js x y z)
+returned m (f ∷ v) (i ∷ is) h b a = by (where_is m i.index h.0) (λ js x y z. returned (suc m) v js x y z)
   where
     below : All (IsBelow (suc m + length v)) (i ∷ is)
     below k d l = subst (λ n. IsBelow n (slice_index_or (i ∷ is) k d)) (let q : m + suc (length v) ≡ suc m + length v = omega arith in q) (b k d l)
@@ -77,5 +77,5 @@ returned m (f ∷ v) (i ∷ is) h b a = by (place m i.index h.0) (λ js x y z. r
 pub items_return : ItemsReturn
 unfolding Agree
 items_return n s v h b d =
-    returned 0 v s.items h (subst (λ k. All (IsBelow k) s.items) (sym d.places ∙ (let q : length v ≡ 0 + length v = omega arith in q)) b)
-    (λ j f l. d.entries j f (let e = d.places in omega arith) ∙ ap (entry_of s.items) (let q : j ≡ 0 + j = omega arith in q))
+    returned 0 v s.items h (subst (λ k. All (IsBelow k) s.items) (sym d.count ∙ (let q : length v ≡ 0 + length v = omega arith in q)) b)
+    (λ j f l. d.entries j f (let e = d.count in omega arith) ∙ ap (entry_of s.items) (let q : j ≡ 0 + j = omega arith in q))

@@ -1,5 +1,6 @@
 -- Sparse vectors: their items, and the vector that they stand for.
-use Rattle.std.specs.Prelude.{◌≡◌, ℕ, suc, ◌≤◌, ◌<◌, eqb, cond, List, [], ◌∷◌, length, All, slice_index_or, pos, IsFalse}
+use Rattle.std.specs.Prelude.{◌≡◌, ℕ, suc, ◌≤◌, ◌<◌, Bool, eqb, ltb, cond, List, [], ◌∷◌, length, All, slice_index_or, pos, IsFalse}
+use Rattle.std.specs.List.{list_all}
 use Rattle.dc_math.specs.Rational.{ℚ, of_ℤ}
 use Rattle.dc_math.specs.Tests.{is_zero}
 use Rattle.dc_frac.specs.declared.Frac.{Frac}
@@ -35,6 +36,10 @@ nonzero_from k (f ∷ fs) =
 abbrev pub IsBelow : ℕ → Item → Type 0
 IsBelow n i = i.index < n
 
+-- whether each index is below n, as a test
+abbrev pub in_range : ℕ → Sparse → Bool
+in_range n s = list_all (λ (i : Item). ltb i.index n) s.items
+
 -- the value of the last item with this index, x where there is none
 abbrev pub entry_after : ℚ → List Item → ℕ → ℚ
 entry_after x [] k = x
@@ -45,7 +50,7 @@ entry_of is k = entry_after (of_ℤ (pos 0)) is k
 
 -- one fraction for each index below n, that of the item with the index, 0 where there is none
 pub record IsDense (n : ℕ) (s : Sparse) (v : List Frac) : Type 0 where
-  pub places : length v ≡ n
+  pub count : length v ≡ n
   pub entries : (k : ℕ) (d : Frac) → k < n → value (slice_index_or v k d) ≡ entry_of s.items k
 
 -- the items of a vector keep each value at its index

@@ -3,7 +3,7 @@ ghost use Rattle.std.specs.Prelude.{ℕ, ◌≡◌, ◌≤◌, ◌<◌, ◌↔�
 ghost use Rattle.dc_frac.specs.declared.Frac.{Frac as Fraction};
 ghost use Rattle.dc_frac.specs.Fits.{IsSmall};
 ghost use Rattle.dc_frac.specs.Value.{value};
-ghost use Rattle.dc_cert.specs.Vectors.{IsBelow, IsDense, IsVector, entry_of, nonzero_from};
+ghost use Rattle.dc_cert.specs.Vectors.{IsBelow, IsDense, IsVector, entry_of, in_range, nonzero_from};
 
 use dc_frac::Frac;
 use sqlite_items::Items;
@@ -25,7 +25,8 @@ pub struct Sparse {
 impl Sparse {
     /// Whether each index is below a number.
     pub fn is_below(&self, len: usize) -> bool
-        ensures { IsTrue result ↔ All (IsBelow len) self.now.items }
+        ensures each { IsTrue result ↔ All (IsBelow len) self.now.items }
+        ensures test { result ≡ in_range len self.now }
     {
         self.items.as_slice().iter().all(|item| item.index < len)
     }

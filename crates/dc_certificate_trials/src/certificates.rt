@@ -150,7 +150,7 @@ fn text_of(alloc: Global, lines: &[&str]) -> Result<String, AllocError> {
     Ok(out)
 }
 
-// The lines with some of them, from a place on, turned into others.
+// The lines with some of them, from an index on, turned into others.
 fn change_lines(
     alloc: Global,
     lines: &[&str],
@@ -202,7 +202,7 @@ fn answer_for(table: &[(usize, u64)], line: usize, other: u64) -> u64 {
     other
 }
 
-// Each line, by its place from 0 on, left out: the text is refused at the line behind it, unless
+// Each line, by its index from 0 on, left out: the text is refused at the line behind it, unless
 // the table says otherwise.
 fn left_out(
     alloc: Global,
@@ -358,7 +358,7 @@ fn parts_of_a_certificate(rt: HostRuntime) -> Result<(), Fail> {
     Ok(())
 }
 
-// The certificate with copies of both sides in their place.
+// The certificate with copies of both sides instead of them.
 fn with_copies(alloc: Global, c: Certificate) -> Result<Certificate, AllocError>
     requires { IsCertificate c }
     ensures { IfOk result IsCertificate }

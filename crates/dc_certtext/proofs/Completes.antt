@@ -20,9 +20,10 @@ use Rattle.dc_certtext.specs.declared.stage.Stage.TheVariants.{Start, Whole, Ver
 use Rattle.dc_lines.specs.Bytes.{Bytes}
 use Rattle.dc_certtext.specs.Text.{shown_line, numbered, whole_line, sizes_line, entry_line}
 use Rattle.dc_certtext.specs.Offers.{Any}
+use Rattle.dc_certtext.specs.Due.{nothing_found}
 use Rattle.dc_certtext.specs.Stages.{head, with_when, front, edge_of, side_of, closed_by, offers}
 use Rattle.dc_lines.proofs.Cutting.{length-more}
-use Rattle.dc_certtext.proofs.Valid.{IsHead, Lacking, Valid}
+use Rattle.dc_certtext.proofs.Valid.{IsHead, Valid}
 use Rattle.dc_certtext.proofs.Paths.{Runs, stop, more, below-ltb, not-ltb}
 
 pub record Completes (s : Stage) : Type 0 where
@@ -40,33 +41,20 @@ nothing = record { items = [] }
 end_completes : (c : Certificate) → Completes (End c)
 end_completes c = by_line (End c) (codes "end") (Done c) (inl (refl, (refl, refl))) (record { lines = []; whole = c; runs = stop (Done c) })
 
-main_completes : (c : Claim) (f : Found) (v d k m : ℕ) (w : List Liveness) (n o : SideCert) → Lacking c f → Completes (Main (head c v d k m w) n o f)
+main_completes : (f : Found) (h : Head) (n o : SideCert) → Completes (Main h n o f)
 unfolding nothing
-main_completes (C.Threshold t) F.None v d k m w n o l =
-    by_line _ _ _ (inl (refl, (nothing, tt, refl, refl))) (by_line _ _ _ (inl (refl, (nothing, tt, refl, refl))) (by_line _ _ _ (inl (refl, (nothing, tt, refl, refl))) (end_completes _)))
-main_completes (C.Threshold t) (F.One u) v d k m w n o l = by_line _ _ _ (inl (refl, (nothing, tt, refl, refl))) (by_line _ _ _ (inl (refl, (nothing, tt, refl, refl))) (end_completes _))
-main_completes (C.Threshold t) (F.Two u r) v d k m w n o l = by_line _ _ _ (inl (refl, (nothing, tt, refl, refl))) (end_completes _)
-main_completes (C.Threshold t) (F.Three u r s) v d k m w n o l = absurd l
-main_completes C.Nothing F.None v d k m w n o l = by_line _ _ _ (inl (refl, (nothing, tt, refl, refl))) (end_completes _)
-main_completes C.Nothing (F.One u) v d k m w n o l = absurd l
-main_completes C.Nothing (F.Two u r) v d k m w n o l = absurd l
-main_completes C.Nothing (F.Three u r s) v d k m w n o l = absurd l
-main_completes C.Vacuous F.None v d k m w n o l =
-    by_line _ _ _ (inl (refl, (nothing, tt, refl, refl)))
-    (by_line _ _ _ (inl (refl, (nothing, tt, refl, refl))) (by_line _ _ _ (inl (refl, (nothing, tt, refl, refl))) (by_line _ _ _ (inl (refl, (nothing, tt, refl, refl))) (end_completes _))))
-main_completes C.Vacuous (F.One u) v d k m w n o l =
-    by_line _ _ _ (inl (refl, (nothing, tt, refl, refl))) (by_line _ _ _ (inl (refl, (nothing, tt, refl, refl))) (by_line _ _ _ (inl (refl, (nothing, tt, refl, refl))) (end_completes _)))
-main_completes C.Vacuous (F.Two u r) v d k m w n o l = by_line _ _ _ (inl (refl, (nothing, tt, refl, refl))) (by_line _ _ _ (inl (refl, (nothing, tt, refl, refl))) (end_completes _))
-main_completes C.Vacuous (F.Three u r s) v d k m w n o l = by_line _ _ _ (inl (refl, (nothing, tt, refl, refl))) (end_completes _)
-
-no_vector : (c : Claim) → Lacking c F.None
-no_vector (C.Threshold t) = tt
-no_vector C.Nothing = tt
-no_vector C.Vacuous = tt
+main_completes (F.Threshold t) h n o = by_line _ _ _ (inl (refl, (nothing, tt, refl, refl))) (by_line _ _ _ (inl (refl, (nothing, tt, refl, refl))) (by_line _ _ _ (inl (refl, (nothing, tt, refl, refl))) (end_completes _)))
+main_completes (F.ThresholdUnknown t u) h n o = by_line _ _ _ (inl (refl, (nothing, tt, refl, refl))) (by_line _ _ _ (inl (refl, (nothing, tt, refl, refl))) (end_completes _))
+main_completes (F.ThresholdLambda t u l) h n o = by_line _ _ _ (inl (refl, (nothing, tt, refl, refl))) (end_completes _)
+main_completes F.Nothing h n o = by_line _ _ _ (inl (refl, (nothing, tt, refl, refl))) (end_completes _)
+main_completes F.Vacuous h n o = by_line _ _ _ (inl (refl, (nothing, tt, refl, refl))) (by_line _ _ _ (inl (refl, (nothing, tt, refl, refl))) (by_line _ _ _ (inl (refl, (nothing, tt, refl, refl))) (by_line _ _ _ (inl (refl, (nothing, tt, refl, refl))) (end_completes _))))
+main_completes (F.VacuousUnknown u) h n o = by_line _ _ _ (inl (refl, (nothing, tt, refl, refl))) (by_line _ _ _ (inl (refl, (nothing, tt, refl, refl))) (by_line _ _ _ (inl (refl, (nothing, tt, refl, refl))) (end_completes _)))
+main_completes (F.VacuousLambda u l) h n o = by_line _ _ _ (inl (refl, (nothing, tt, refl, refl))) (by_line _ _ _ (inl (refl, (nothing, tt, refl, refl))) (end_completes _))
+main_completes (F.VacuousRay u l r) h n o = by_line _ _ _ (inl (refl, (nothing, tt, refl, refl))) (end_completes _)
 
 closed_completes : (h : Head) (n o : SideCert) → Completes (Closed h n o)
 closed_completes h n o =
-    by_line (Closed h n o) (codes "main") (Main h n o F.None) (inl (refl, (refl, refl))) (main_completes h.claim F.None h.version h.degree h.products h.cases h.when n o (no_vector h.claim))
+    by_line (Closed h n o) (codes "main") (Main h n o (nothing_found h.claim)) (inl (refl, (refl, refl))) (main_completes (nothing_found h.claim) h n o)
 
 -- ---- a side, where what comes behind it completes
 After : Head → Option SideCert → Type 0
@@ -150,6 +138,6 @@ completes (Entries f fam done last) v = entries_complete (f.head.cases - suc (le
 completes (Edges f fam ents done live last) v = edges_complete f fam ents done live last (after f.head f.new (some_case f.head v.0.parts))
 completes (Between h n) v = between_completes h n (some_case h v.0.parts)
 completes (Closed h n o) v = closed_completes h n o
-completes (Main h n o found) v = main_completes h.claim found h.version h.degree h.products h.cases h.when n o v.4
+completes (Main h n o found) v = main_completes found h n o
 completes (End c) v = end_completes c
 completes (Done c) v = record { lines = []; whole = c; runs = stop (Done c) }

@@ -1,6 +1,6 @@
 -- The numbers of an atom, as they are read from the left.
 use Rattle.std.specs.Prelude.{◌≡◌, ℕ, suc, ◌≤◌, ◌<◌, ◌^◌, List, [], ◌∷◌, ◌++◌, length, ℤ, unsigned_abs, refl}
-use Rattle.std.proofs.Common.{sym, ◌∙◌, ap, ap₂, subst, arith, append_assoc, inl}
+use Rattle.std.proofs.Common.{sym, ◌∙◌, ap, ap₂, subst, arith, append_assoc}
 use Rattle.std.proofs.lemmas.List.{append-nil}
 use Rattle.std.specs.Fmt.{signed_decimal}
 use Rattle.dc_affine.specs.declared.atom.Atom.{Atom}
@@ -8,7 +8,7 @@ use Rattle.dc_affine.specs.Atoms.{IsAtom, AllFit}
 use Rattle.dc_lines.specs.Bytes.{Bytes, spaced}
 use Rattle.dc_certtext.specs.Words.{atom_text}
 use Rattle.dc_lines.specs.Cuts.{Starts}
-use Rattle.dc_lines.proofs.Cutting.{nil_not, same_cut, spaced-starts, spaced-append, length-more}
+use Rattle.dc_lines.proofs.Cutting.{nil_not, spaced-starts, spaced-append, length-more}
 use Rattle.dc_lines.proofs.Fields.{number_cut}
 
 -- two readings of a coefficient are one

@@ -12,13 +12,7 @@ use Rattle.dc_cert.specs.declared.certificate.Liveness.{Liveness}
 use Rattle.dc_cert.specs.declared.certificate.Liveness.TheVariants.{Dead, Live}
 use Rattle.dc_cert.specs.Vectors.{AreItems, IsVector}
 use Rattle.dc_cert.specs.Ranges.{IsShown}
-use Rattle.dc_cert.specs.declared.certificate.SideCert.{SideCert}
-use Rattle.dc_certtext.specs.declared.stage.Head.{Head}
 use Rattle.dc_certtext.specs.declared.stage.Stage.{Stage}
-use Rattle.dc_cert.specs.declared.certificate.Claim.{Claim}
-use Rattle.dc_cert.specs.declared.certificate.Claim.TheVariants as C
-use Rattle.dc_certtext.specs.declared.stage.Found.{Found}
-use Rattle.dc_certtext.specs.declared.stage.Found.TheVariants as F
 use Rattle.dc_certtext.specs.declared.stage.Stage.TheVariants.{Start, Whole, Version, Sizes, Cases, Heads, Opened, Locations, Entries, Edges, Between, Closed, Main, End, Done}
 use Rattle.dc_lines.specs.Bytes.{Bytes, spaced}
 use Rattle.dc_certtext.specs.Words.{item_text, frac_text, vector_text, atom_text}
@@ -27,7 +21,7 @@ use Rattle.dc_lines.proofs.Numerals.{decimal_one, whole_lacks, whole_one, digits
 use Rattle.dc_certtext.proofs.Fractions.{item-lacks, item_one, frac_one}
 use Rattle.dc_certtext.specs.Text.{shown_text}
 use Rattle.dc_certtext.specs.Offers.{Then, plain, vector, shown, atom, fraction, number, sizes, Offer, Takes, Any}
-use Rattle.dc_certtext.specs.Stages.{offers, vectors_next}
+use Rattle.dc_certtext.specs.Stages.{offers}
 
 -- ---- the words of a stage differ before one of them ends
 abbrev pub apart : Bytes → Bytes → Bool
@@ -137,20 +131,6 @@ one_way (o ∷ os) b s u d (inr h) (inl g) = absurd (other_taken o.key o.next os
 one_way (o ∷ os) b s u d (inr h) (inr g) = one_way os b s u d.1 h g
 
 -- ---- the words of each stage
-vectors_distinct : (c : Claim) (f : Found) (h : Head) (n o : SideCert) → Distinct (vectors_next h n o c f)
-vectors_distinct (C.Threshold t) F.None h n o = (tt, tt)
-vectors_distinct (C.Threshold t) (F.One u) h n o = (tt, tt)
-vectors_distinct (C.Threshold t) (F.Two u l) h n o = (tt, tt)
-vectors_distinct (C.Threshold t) (F.Three u l r) h n o = tt
-vectors_distinct C.Nothing F.None h n o = (tt, tt)
-vectors_distinct C.Nothing (F.One u) h n o = tt
-vectors_distinct C.Nothing (F.Two u l) h n o = tt
-vectors_distinct C.Nothing (F.Three u l r) h n o = tt
-vectors_distinct C.Vacuous F.None h n o = (tt, tt)
-vectors_distinct C.Vacuous (F.One u) h n o = (tt, tt)
-vectors_distinct C.Vacuous (F.Two u l) h n o = (tt, tt)
-vectors_distinct C.Vacuous (F.Three u l r) h n o = (tt, tt)
-
 pub distinct : (s : Stage) → Distinct (offers s)
 distinct Start = ((refl, (refl, tt)), ((refl, tt), (tt, tt)))
 distinct (Whole t) = (tt, tt)
@@ -164,6 +144,6 @@ distinct (Entries f fam done last) = ((refl, (refl, (refl, tt))), ((refl, (refl,
 distinct (Edges f fam ents done live last) = ((refl, (refl, tt)), ((refl, tt), (tt, tt)))
 distinct (Between h n) = (tt, tt)
 distinct (Closed h n o) = (tt, tt)
-distinct (Main h n o found) = vectors_distinct h.claim found h n o
+distinct (Main h n o found) = (tt, tt)
 distinct (End c) = (tt, tt)
 distinct (Done c) = tt

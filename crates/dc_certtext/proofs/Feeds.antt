@@ -1,17 +1,12 @@
 -- No line that is read has a line feed.
-use Rattle.std.specs.Prelude.{◌≡◌, ℕ, zero, suc, ◌+◌, ◌/◌, ◌%◌, ◌<◌, Bool, true, false, cond, eqb, ltb, List, [], ◌∷◌, ◌++◌, length, codes, ℤ, pos, negsuc, refl}
+use Rattle.std.specs.Prelude.{ℕ, suc, Bool, true, false, cond, eqb, List, [], ◌∷◌, ◌++◌, length, codes, refl}
 use Rattle.std.proofs.Common.{subst, arith, inl, inr}
-use Rattle.std.proofs.lemmas.Bool.{eqb-false}
-use Rattle.std.specs.Fmt.{decimal, signed_decimal, digits, digits_onto, digit_glyph}
+use Rattle.std.specs.Fmt.{decimal}
 use Rattle.dc_cert.specs.declared.sparse.Item.{Item}
-use Rattle.dc_cert.specs.declared.certificate.SideCert.{SideCert}
 use Rattle.dc_cert.specs.declared.certificate.Liveness.{Liveness}
 use Rattle.dc_cert.specs.declared.certificate.Liveness.TheVariants.{Dead, Live}
 use Rattle.dc_cert.specs.Vectors.{AreItems}
 use Rattle.dc_cert.specs.Ranges.{IsShown}
-use Rattle.dc_certtext.specs.declared.stage.Head.{Head}
-use Rattle.dc_cert.specs.declared.certificate.Claim.{Claim}
-use Rattle.dc_cert.specs.declared.certificate.Claim.TheVariants as C
 use Rattle.dc_certtext.specs.declared.stage.Found.{Found}
 use Rattle.dc_certtext.specs.declared.stage.Found.TheVariants as F
 use Rattle.dc_certtext.specs.declared.stage.Stage.{Stage}
@@ -24,7 +19,8 @@ use Rattle.dc_lines.proofs.Numerals.{number-lacks, signed-lacks, numbers-lack}
 use Rattle.dc_certtext.proofs.Fractions.{frac_lacks}
 use Rattle.dc_certtext.specs.Text.{shown_text, numbered, entry_line}
 use Rattle.dc_certtext.specs.Offers.{Then, plain, vector, shown, atom, fraction, number, sizes, Offer, Takes, Any}
-use Rattle.dc_certtext.specs.Stages.{offers, vectors_next}
+use Rattle.dc_certtext.specs.Stages.{offers}
+use Rattle.dc_certtext.specs.Due.{due}
 
 -- ---- words and numbers
 items-lack : (low : ℕ) (is : List Item) → AreItems low is → Lacks 10 (spaced item_text is)
@@ -74,20 +70,16 @@ entry-lacks v n = lacks-append 10 (codes "entry") (cond (eqb v 1) [] (32 ∷ dec
     by true = tt
     by false = ((λ e. omega arith), number-lacks n)
 
-vectors-words : (c : Claim) (f : Found) (h : Head) (n o : SideCert) → Words (vectors_next h n o c f)
+due-lacks : (f : Found) → Lacks 10 (due f)
 unfolding lacks
-vectors-words (C.Threshold t) F.None h n o = (word-lacks (codes "unknown") refl, tt)
-vectors-words (C.Threshold t) (F.One u) h n o = (word-lacks (codes "lambda") refl, tt)
-vectors-words (C.Threshold t) (F.Two u l) h n o = (word-lacks (codes "dual") refl, tt)
-vectors-words (C.Threshold t) (F.Three u l r) h n o = tt
-vectors-words C.Nothing F.None h n o = (word-lacks (codes "dual") refl, tt)
-vectors-words C.Nothing (F.One u) h n o = tt
-vectors-words C.Nothing (F.Two u l) h n o = tt
-vectors-words C.Nothing (F.Three u l r) h n o = tt
-vectors-words C.Vacuous F.None h n o = (word-lacks (codes "unknown") refl, tt)
-vectors-words C.Vacuous (F.One u) h n o = (word-lacks (codes "lambda") refl, tt)
-vectors-words C.Vacuous (F.Two u l) h n o = (word-lacks (codes "ray unknown") refl, tt)
-vectors-words C.Vacuous (F.Three u l r) h n o = (word-lacks (codes "ray lambda") refl, tt)
+due-lacks (F.Threshold t) = word-lacks (codes "unknown") refl
+due-lacks (F.ThresholdUnknown t u) = word-lacks (codes "lambda") refl
+due-lacks (F.ThresholdLambda t u l) = word-lacks (codes "dual") refl
+due-lacks F.Nothing = word-lacks (codes "dual") refl
+due-lacks F.Vacuous = word-lacks (codes "unknown") refl
+due-lacks (F.VacuousUnknown u) = word-lacks (codes "lambda") refl
+due-lacks (F.VacuousLambda u l) = word-lacks (codes "ray unknown") refl
+due-lacks (F.VacuousRay u l r) = word-lacks (codes "ray lambda") refl
 
 words : (s : Stage) → Words (offers s)
 unfolding lacks
@@ -103,7 +95,7 @@ words (Entries f fam done last) = (word-lacks (codes "keep") refl, (entry-lacks 
 words (Edges f fam ents done live last) = (word-lacks (codes "keep") refl, (numbered-lacks (codes "edge ") (suc (length done)) (word-lacks (codes "edge ") refl), (word-lacks (codes "exit") refl, tt)))
 words (Between h n) = (word-lacks (codes "side old") refl, tt)
 words (Closed h n o) = (word-lacks (codes "main") refl, tt)
-words (Main h n o found) = vectors-words h.claim found h n o
+words (Main h n o found) = (due-lacks found, tt)
 words (End c) = (word-lacks (codes "end") refl, tt)
 words (Done c) = tt
 

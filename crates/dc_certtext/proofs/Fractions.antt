@@ -1,12 +1,8 @@
 -- Fractions and items: each has one spelling.
-use Rattle.std.specs.Prelude.{◌≡◌, ◌⊎◌, ℕ, zero, suc, ◌≤◌, ◌<◌, ◌^◌, Bool, true, false, eqb, cond, [], ◌∷◌, ◌++◌, ℤ, pos, negsuc, neg_ℤ, ◌≤ℤ◌, unsigned_abs, Option, Some, None, MatchOption, refl}
+use Rattle.std.specs.Prelude.{◌≡◌, ◌⊎◌, ℕ, zero, suc, ◌≤◌, ◌<◌, ◌^◌, Bool, true, false, eqb, cond, [], ◌∷◌, ◌++◌, ℤ, pos, negsuc, ◌≤ℤ◌, unsigned_abs, Option, Some, None, MatchOption, refl}
 use Rattle.std.proofs.Common.{sym, ◌∙◌, ap, ap₂, subst, arith, inl, inr}
 use Rattle.std.proofs.lemmas.Int.{ints}
 use Rattle.std.specs.Fmt.{decimal, signed_decimal}
-use native.Mathlib.Nat.{ℕ_set}
-use Rattle.std.proofs.Math.Bridge.{le_prop}
-use Rattle.std.proofs.Math.Dec.{T_prop}
-use Rattle.std.proofs.Math.Bool.{So-prop}
 use Rattle.dc_math.specs.Gcd.{gcd}
 use Rattle.dc_frac.specs.declared.Frac.{Frac}
 use Rattle.dc_frac.specs.Fits.{IsSmall}
@@ -20,7 +16,7 @@ use Rattle.dc_certtext.specs.Words.{den_text, frac_text, item_text}
 use Rattle.dc_lines.specs.Cuts.{Lacks, Starts, until, onward}
 use Rattle.dc_lines.proofs.Cutting.{tail_of, until-append, onward-append, cut_whole, same_cut, lacks-append}
 use Rattle.std.proofs.lemmas.Bool.{ne_eqb}
-use Rattle.dc_lines.proofs.Numerals.{Digits, digits-lack, decimal_digits, decimal_one, whole_lacks, whole_one}
+use Rattle.dc_lines.proofs.Numerals.{digits-lack, decimal_digits, decimal_one, whole_lacks, whole_one}
 
 -- ---- denominators
 den_by : (n : ℕ) (t : Bool) → eqb n 1 ≡ t → den_text n ≡ cond t [] (47 ∷ decimal n)

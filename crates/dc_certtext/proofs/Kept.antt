@@ -27,11 +27,11 @@ use Rattle.dc_lines.specs.Bytes.{Bytes}
 use Rattle.dc_lines.proofs.Cutting.{length-more}
 use Rattle.dc_certtext.specs.Text.{vector_line, shown_line, numbered, threshold_line, sizes_line, atom_line, entry_line, edge_line, groups, location_lines, entry_lines, edge_lines, side_lines, cases_lines, claim_lines, head_lines, body_lines, lines_of}
 use Rattle.dc_certtext.specs.Offers.{Any}
-use Rattle.dc_certtext.specs.Stages.{head, with_when, front, edge_of, side_of, sized, closed_by, vectors_next, offers}
-use Rattle.dc_certtext.specs.Due.{certificate}
+use Rattle.dc_certtext.specs.Stages.{head, with_when, front, edge_of, side_of, sized, closed_by, offers}
+use Rattle.dc_certtext.specs.Due.{certificate, nothing_found}
 use Rattle.dc_certtext.proofs.SoFar.{sized_lines, headed, between, opened, closed, found_lines, head_of, before_end, so_far, more_in, new_group, length-last, mapped-last}
 use Rattle.dc_cert.specs.Claims.{claim_of}
-use Rattle.dc_certtext.proofs.Valid.{IsClaim, IsHead, IsFull, IsNew, AreLocations, AreFamilies, AreEntries, AreAllEntries, IsFound, Lacking, Valid}
+use Rattle.dc_certtext.proofs.Valid.{IsClaim, IsHead, IsFull, IsNew, AreLocations, AreFamilies, AreEntries, AreAllEntries, IsFound, claimed, Valid}
 
 -- the stage t is valid and has one line more than s
 pub record Good (s : Stage) (b : Bytes) (t : Stage) : Type 0 where
@@ -240,42 +240,23 @@ end_kept h n o found body b e f i j k q = record {
       ∙ sym (append_assoc (closed h n o ++ codes "main" ∷ []) (found_lines found) (b ∷ []));
 }
 
-found_kept : (h : Head) (n o : SideCert) (found more : Found) (b : Bytes) → IsFull h → IsSide h.cases n → IsSide h.cases o → IsFound more → Lacking h.claim more → found_lines more ≡ found_lines found ++ b ∷ []
+found_kept : (h : Head) (n o : SideCert) (found more : Found) (b : Bytes) → IsFull h → IsSide h.cases n → IsSide h.cases o → IsFound more → h.claim ≡ claimed more → found_lines more ≡ found_lines found ++ b ∷ []
     → Good (Main h n o found) b (Main h n o more)
 found_kept h n o found more b f i j k l q = record {
   valid = (f, i, j, k, l);
   line = ap (λ x. (closed h n o ++ codes "main" ∷ []) ++ x) q ∙ sym (append_assoc (closed h n o ++ codes "main" ∷ []) (found_lines found) (b ∷ []));
 }
 
-main_kept : (c : Claim) (found : Found) (h : Head) (n o : SideCert) (b : Bytes) (t : Stage) → h.claim ≡ c → IsFull h → IsSide h.cases n → IsSide h.cases o → IsFound found → Any (vectors_next h n o c found) b t → Good (Main h n o found) b t
-main_kept (C.Threshold x) F.None h n o b t e f i j k (inl (g, (s, v, p, q))) = led _ b t _ q (found_kept h n o F.None (F.One s) b f i j v (subst (λ y. Lacking y (F.One s)) (sym e) tt) (ap (λ w. w ∷ []) p))
-main_kept (C.Threshold x) F.None h n o b t e f i j k (inr z) = absurd z
-main_kept (C.Threshold x) (F.One u) h n o b t e f i j k (inl (g, (s, v, p, q))) =
-    led _ b t _ q (found_kept h n o (F.One u) (F.Two u s) b f i j (k, v) (subst (λ y. Lacking y (F.Two u s)) (sym e) tt) (ap (λ w. vector_line (codes "unknown") u ∷ w ∷ []) p))
-main_kept (C.Threshold x) (F.One u) h n o b t e f i j k (inr z) = absurd z
-main_kept (C.Threshold x) (F.Two u l) h n o b t e f i j k (inl (g, (s, v, p, q))) =
-    led _ b t _ q (end_kept h n o (F.Two u l) (B.Threshold x u l s) b e f i j (subst IsClaim e f.parts.claim, k.0, k.1, v) (ap (λ w. vector_line (codes "unknown") u ∷ vector_line (codes "lambda") l ∷ w ∷ []) p))
-main_kept (C.Threshold x) (F.Two u l) h n o b t e f i j k (inr z) = absurd z
-main_kept (C.Threshold x) (F.Three u l r) h n o b t e f i j k z = absurd z
-main_kept C.Nothing F.None h n o b t e f i j k (inl (g, (s, v, p, q))) = led _ b t _ q (end_kept h n o F.None (B.Nothing s) b e f i j v (ap (λ w. w ∷ []) p))
-main_kept C.Nothing F.None h n o b t e f i j k (inr z) = absurd z
-main_kept C.Nothing (F.One u) h n o b t e f i j k z = absurd z
-main_kept C.Nothing (F.Two u l) h n o b t e f i j k z = absurd z
-main_kept C.Nothing (F.Three u l r) h n o b t e f i j k z = absurd z
-main_kept C.Vacuous F.None h n o b t e f i j k (inl (g, (s, v, p, q))) = led _ b t _ q (found_kept h n o F.None (F.One s) b f i j v (subst (λ y. Lacking y (F.One s)) (sym e) tt) (ap (λ w. w ∷ []) p))
-main_kept C.Vacuous F.None h n o b t e f i j k (inr z) = absurd z
-main_kept C.Vacuous (F.One u) h n o b t e f i j k (inl (g, (s, v, p, q))) =
-    led _ b t _ q (found_kept h n o (F.One u) (F.Two u s) b f i j (k, v) (subst (λ y. Lacking y (F.Two u s)) (sym e) tt) (ap (λ w. vector_line (codes "unknown") u ∷ w ∷ []) p))
-main_kept C.Vacuous (F.One u) h n o b t e f i j k (inr z) = absurd z
-main_kept C.Vacuous (F.Two u l) h n o b t e f i j k (inl (g, (s, v, p, q))) =
-    led _ b t _ q
-    (found_kept h n o (F.Two u l) (F.Three u l s) b f i j (k.0, k.1, v) (subst (λ y. Lacking y (F.Three u l s)) (sym e) tt) (ap (λ w. vector_line (codes "unknown") u ∷ vector_line (codes "lambda") l ∷ w ∷ []) p))
-main_kept C.Vacuous (F.Two u l) h n o b t e f i j k (inr z) = absurd z
-main_kept C.Vacuous (F.Three u l r) h n o b t e f i j k (inl (g, (s, v, p, q))) =
-    led _ b t _ q
-    (end_kept h n o (F.Three u l r) (B.Vacuous u l r s) b e f i j (k.0, k.1, k.2, v)
-    (ap (λ w. vector_line (codes "unknown") u ∷ vector_line (codes "lambda") l ∷ vector_line (codes "ray unknown") r ∷ w ∷ []) p))
-main_kept C.Vacuous (F.Three u l r) h n o b t e f i j k (inr z) = absurd z
+main_kept : (found : Found) (h : Head) (n o : SideCert) (b : Bytes) (t : Stage) → h.claim ≡ claimed found → IsFull h → IsSide h.cases n → IsSide h.cases o → IsFound found → Any (offers (Main h n o found)) b t → Good (Main h n o found) b t
+main_kept (F.Threshold x) h n o b t e f i j k (inl (g, (s, v, p, q))) = led _ b t _ q (found_kept h n o (F.Threshold x) (F.ThresholdUnknown x s) b f i j v e (ap (λ w. w ∷ []) p))
+main_kept (F.ThresholdUnknown x u) h n o b t e f i j k (inl (g, (s, v, p, q))) = led _ b t _ q (found_kept h n o (F.ThresholdUnknown x u) (F.ThresholdLambda x u s) b f i j (k, v) e (ap (λ w. vector_line (codes "unknown") u ∷ w ∷ []) p))
+main_kept (F.ThresholdLambda x u l) h n o b t e f i j k (inl (g, (s, v, p, q))) = led _ b t _ q (end_kept h n o (F.ThresholdLambda x u l) (B.Threshold x u l s) b e f i j (subst IsClaim e f.parts.claim, k.0, k.1, v) (ap (λ w. vector_line (codes "unknown") u ∷ vector_line (codes "lambda") l ∷ w ∷ []) p))
+main_kept F.Nothing h n o b t e f i j k (inl (g, (s, v, p, q))) = led _ b t _ q (end_kept h n o F.Nothing (B.Nothing s) b e f i j v (ap (λ w. w ∷ []) p))
+main_kept F.Vacuous h n o b t e f i j k (inl (g, (s, v, p, q))) = led _ b t _ q (found_kept h n o F.Vacuous (F.VacuousUnknown s) b f i j v e (ap (λ w. w ∷ []) p))
+main_kept (F.VacuousUnknown u) h n o b t e f i j k (inl (g, (s, v, p, q))) = led _ b t _ q (found_kept h n o (F.VacuousUnknown u) (F.VacuousLambda u s) b f i j (k, v) e (ap (λ w. vector_line (codes "unknown") u ∷ w ∷ []) p))
+main_kept (F.VacuousLambda u l) h n o b t e f i j k (inl (g, (s, v, p, q))) = led _ b t _ q (found_kept h n o (F.VacuousLambda u l) (F.VacuousRay u l s) b f i j (k.0, k.1, v) e (ap (λ w. vector_line (codes "unknown") u ∷ vector_line (codes "lambda") l ∷ w ∷ []) p))
+main_kept (F.VacuousRay u l r) h n o b t e f i j k (inl (g, (s, v, p, q))) = led _ b t _ q (end_kept h n o (F.VacuousRay u l r) (B.Vacuous u l r s) b e f i j (k.0, k.1, k.2, v) (ap (λ w. vector_line (codes "unknown") u ∷ vector_line (codes "lambda") l ∷ vector_line (codes "ray unknown") r ∷ w ∷ []) p))
+main_kept found h n o b t e f i j k (inr z) = absurd z
 
 -- all lines of a certificate are those before the last, and the last
 pub lines_end : (c : Certificate) → lines_of c ≡ before_end c ++ codes "end" ∷ []
@@ -319,15 +300,14 @@ kept (Entries f fam done last) b t v a = entries_kept f fam done last b t v a
 kept (Edges f fam ents done live last) b t v a = edges_kept f fam ents done live last b t v a
 kept (Between h n) b t v (inl (g, (e, q))) = led (Between h n) b t (Opened (front h (Some n))) q (record { valid = v; line = ap (λ l. between h n ++ l ∷ []) e })
 kept (Between h n) b t v (inr k) = absurd k
-kept (Closed h n o) b t v (inl (g, (e, q))) =
-    led (Closed h n o) b t (Main h n o F.None) q (record { valid = (v.0, v.1, v.2, tt, none h.claim); line = append-nil (closed h n o ++ codes "main" ∷ []) ∙ ap (λ l. closed h n o ++ l ∷ []) e })
+kept (Closed h n o) b t v (inl (g, (e, q))) = closed_kept h.claim refl q
   where
-    none : (c : Claim) → Lacking c F.None
-    none (C.Threshold t) = tt
-    none C.Nothing = tt
-    none C.Vacuous = tt
+    closed_kept : (c : Claim) → h.claim ≡ c → t ≡ Main h n o (nothing_found c) → Good (Closed h n o) b t
+    closed_kept (C.Threshold x) y r = led (Closed h n o) b t (Main h n o (F.Threshold x)) r (record { valid = (v.0, v.1, v.2, tt, y); line = append-nil (closed h n o ++ codes "main" ∷ []) ∙ ap (λ l. closed h n o ++ l ∷ []) e })
+    closed_kept C.Nothing y r = led (Closed h n o) b t (Main h n o F.Nothing) r (record { valid = (v.0, v.1, v.2, tt, y); line = append-nil (closed h n o ++ codes "main" ∷ []) ∙ ap (λ l. closed h n o ++ l ∷ []) e })
+    closed_kept C.Vacuous y r = led (Closed h n o) b t (Main h n o F.Vacuous) r (record { valid = (v.0, v.1, v.2, tt, y); line = append-nil (closed h n o ++ codes "main" ∷ []) ∙ ap (λ l. closed h n o ++ l ∷ []) e })
 kept (Closed h n o) b t v (inr k) = absurd k
-kept (Main h n o found) b t v a = main_kept h.claim found h n o b t refl v.0 v.1 v.2 v.3 a
+kept (Main h n o found) b t v a = main_kept found h n o b t v.4 v.0 v.1 v.2 v.3 a
 kept (End c) b t v (inl (g, (e, q))) = led (End c) b t (Done c) q (record { valid = v; line = lines_end c ∙ ap (λ l. before_end c ++ l ∷ []) e })
 kept (End c) b t v (inr h) = absurd h
 kept (Done c) b t v a = absurd a

@@ -13,5 +13,4 @@ pub mod Machine
 pub mod Afterword
 pub mod Refusals
 pub mod Sized
-pub mod DueVectors
 pub mod Decisions

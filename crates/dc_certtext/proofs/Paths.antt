@@ -17,6 +17,7 @@ use Rattle.dc_cert.specs.Ranges.{IsShown, AreKeeps, AreAtoms, IsEdge, IsSide, Ha
 use Rattle.dc_cert.specs.Vectors.{IsVector}
 use Rattle.dc_cert.specs.declared.certificate.Claim.{Claim}
 use Rattle.dc_cert.specs.declared.certificate.Claim.TheVariants as C
+use Rattle.dc_certtext.specs.declared.stage.Head.{Head}
 use Rattle.dc_certtext.specs.declared.stage.Front.{Front}
 use Rattle.dc_certtext.specs.declared.stage.Found.TheVariants as F
 use Rattle.dc_certtext.specs.declared.stage.Stage.{Stage}
@@ -26,7 +27,7 @@ use Rattle.dc_lines.proofs.Readers as readers
 use Rattle.dc_certtext.specs.Text.{vector_line, shown_line, numbered, threshold_line, whole_line, sizes_line, atom_line, entry_line, edge_line, groups, location_lines, keep_lines, entry_lines, edge_lines, side_lines, cases_lines, claim_lines, head_lines, body_lines, lines_of}
 use Rattle.dc_certtext.specs.Offers.{Any}
 use Rattle.dc_certtext.specs.Stages.{head, front, edge_of, side_of, sized, closed_by, offers}
-use Rattle.dc_certtext.specs.Due.{certificate}
+use Rattle.dc_certtext.specs.Due.{certificate, nothing_found}
 use Rattle.dc_cert.specs.Claims.{claim_of}
 use Rattle.dc_lines.proofs.Cutting.{length-more}
 
@@ -224,17 +225,15 @@ head_run c h =
     (cases_run a c.version c.degree c.products (length c.when) h.cases) (whens_run a c.version c.degree c.products (length c.when) [] c.when (omega arith) h.when))))
 
 -- ---- the vectors
-body_run : (b : Body) (v d k m : ℕ) (w : List Liveness) (n o : SideCert) → IsBody b → Runs (Main (head (claim_of b) v d k m w) n o F.None) (body_lines b) (End (certificate (head (claim_of b) v d k m w) n o b))
-body_run (B.Threshold t u l s) v d k m w n o i =
-    let h = head (C.Threshold t) v d k m w in
-    (Main h n o (F.One u), inl (refl, (u, i.1, refl, refl)), (Main h n o (F.Two u l), inl (refl, (l, i.2, refl, refl)), (End (certificate h n o (B.Threshold t u l s)), inl (refl, (s, i.3, refl, refl)), refl)))
-body_run (B.Nothing s) v d k m w n o i = (End (certificate (head C.Nothing v d k m w) n o (B.Nothing s)), inl (refl, (s, i, refl, refl)), refl)
-body_run (B.Vacuous u l r s) v d k m w n o i =
-    let h = head C.Vacuous v d k m w in (
-      Main h n o (F.One u),
-      inl (refl, (u, i.0, refl, refl)),
-      (Main h n o (F.Two u l), inl (refl, (l, i.1, refl, refl)), (Main h n o (F.Three u l r), inl (refl, (r, i.2, refl, refl)), (End (certificate h n o (B.Vacuous u l r s)), inl (refl, (s, i.3, refl, refl)), refl))),
-    )
+body_run : (b : Body) (h : Head) (n o : SideCert) → IsBody b → Runs (Main h n o (nothing_found (claim_of b))) (body_lines b) (End (certificate h n o b))
+body_run (B.Threshold t u l s) h n o i =
+    (Main h n o (F.ThresholdUnknown t u), inl (refl, (u, i.1, refl, refl)), (Main h n o (F.ThresholdLambda t u l), inl (refl, (l, i.2, refl, refl)), (End (certificate h n o (B.Threshold t u l s)), inl (refl, (s, i.3, refl, refl)), refl)))
+body_run (B.Nothing s) h n o i = (End (certificate h n o (B.Nothing s)), inl (refl, (s, i, refl, refl)), refl)
+body_run (B.Vacuous u l r s) h n o i = (
+  Main h n o (F.VacuousUnknown u),
+  inl (refl, (u, i.0, refl, refl)),
+  (Main h n o (F.VacuousLambda u l), inl (refl, (l, i.1, refl, refl)), (Main h n o (F.VacuousRay u l r), inl (refl, (r, i.2, refl, refl)), (End (certificate h n o (B.Vacuous u l r s)), inl (refl, (s, i.3, refl, refl)), refl))),
+)
 
 -- each certificate's lines are a run
 pub certificate_run : (c : Certificate) → IsCertificate c → Runs Start (lines_of c) (Done c)
@@ -251,9 +250,9 @@ certificate_run c i =
         Opened (front h (Some c.new_side)),
         inl (refl, (refl, refl)),
         runs-append (Opened (front h (Some c.new_side))) (side_lines c.version c.old_side) (Closed h c.new_side c.old_side) four (Done c) (side_run (front h (Some c.new_side)) c.old_side i.old_side v.3) (
-          Main h c.new_side c.old_side F.None,
+          Main h c.new_side c.old_side (nothing_found (claim_of c.body)),
           inl (refl, (refl, refl)),
-          runs-append (Main h c.new_side c.old_side F.None) (body_lines c.body) (End c) (codes "end" ∷ []) (Done c) (body_run c.body c.version c.degree c.products (length c.when) c.when c.new_side c.old_side i.body)
+          runs-append (Main h c.new_side c.old_side (nothing_found (claim_of c.body))) (body_lines c.body) (End c) (codes "end" ∷ []) (Done c) (body_run c.body h c.new_side c.old_side i.body)
               (Done c, inl (refl, (refl, refl)), refl),
         ),
       ),

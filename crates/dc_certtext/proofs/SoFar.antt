@@ -3,11 +3,8 @@ use Rattle.std.specs.Prelude.{◌≡◌, ℕ, suc, ◌+◌, List, [], ◌∷◌,
 use Rattle.std.proofs.Common.{sym, ◌∙◌, ap, arith, append_assoc}
 use Rattle.std.proofs.lemmas.List.{append-nil}
 use Rattle.dc_cert.specs.declared.certificate.SideCert.{SideCert}
-use Rattle.dc_cert.specs.declared.certificate.Body.{Body}
-use Rattle.dc_cert.specs.declared.certificate.Body.TheVariants as B
 use Rattle.dc_cert.specs.declared.certificate.Certificate.{Certificate}
 use Rattle.dc_cert.specs.declared.certificate.Claim.{Claim}
-use Rattle.dc_cert.specs.declared.certificate.Claim.TheVariants as C
 use Rattle.dc_certtext.specs.declared.stage.Head.{Head}
 use Rattle.dc_certtext.specs.declared.stage.Found.{Found}
 use Rattle.dc_certtext.specs.declared.stage.Found.TheVariants as F
@@ -15,7 +12,7 @@ use Rattle.dc_certtext.specs.declared.stage.Stage.{Stage}
 use Rattle.dc_certtext.specs.declared.stage.Stage.TheVariants.{Start, Whole, Version, Sizes, Cases, Heads, Opened, Locations, Entries, Edges, Between, Closed, Main, End, Done}
 use Rattle.dc_lines.specs.Bytes.{Bytes}
 use Rattle.dc_cert.specs.Claims.{claim_of}
-use Rattle.dc_certtext.specs.Text.{claim_lines, vector_line, shown_line, numbered, threshold_line, whole_line, sizes_line, groups, location_lines, entry_lines, edge_lines, side_lines, cases_lines, body_lines, lines_of}
+use Rattle.dc_certtext.specs.Text.{claim_lines, vector_line, shown_line, numbered, threshold_line, sizes_line, groups, location_lines, entry_lines, edge_lines, side_lines, cases_lines, body_lines, lines_of}
 use Rattle.dc_certtext.specs.Stages.{head, edge_of}
 
 -- ---- lists with something behind them
@@ -39,10 +36,14 @@ abbrev pub closed : Head → SideCert → SideCert → List Bytes
 closed h n o = (between h n ++ codes "side old" ∷ []) ++ side_lines h.version o
 
 abbrev pub found_lines : Found → List Bytes
-found_lines F.None = []
-found_lines (F.One u) = vector_line (codes "unknown") u ∷ []
-found_lines (F.Two u l) = vector_line (codes "unknown") u ∷ vector_line (codes "lambda") l ∷ []
-found_lines (F.Three u l r) = vector_line (codes "unknown") u ∷ vector_line (codes "lambda") l ∷ vector_line (codes "ray unknown") r ∷ []
+found_lines (F.Threshold t) = []
+found_lines (F.ThresholdUnknown t u) = vector_line (codes "unknown") u ∷ []
+found_lines (F.ThresholdLambda t u l) = vector_line (codes "unknown") u ∷ vector_line (codes "lambda") l ∷ []
+found_lines F.Nothing = []
+found_lines F.Vacuous = []
+found_lines (F.VacuousUnknown u) = vector_line (codes "unknown") u ∷ []
+found_lines (F.VacuousLambda u l) = vector_line (codes "unknown") u ∷ vector_line (codes "lambda") l ∷ []
+found_lines (F.VacuousRay u l r) = vector_line (codes "unknown") u ∷ vector_line (codes "lambda") l ∷ vector_line (codes "ray unknown") r ∷ []
 
 -- a certificate's head
 abbrev pub head_of : Certificate → Head

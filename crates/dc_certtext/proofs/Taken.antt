@@ -1,18 +1,15 @@
 -- Lists with a space in front of each, as they are read from the left.
-use Rattle.std.specs.Prelude.{◌≡◌, ℕ, suc, ◌+◌, ◌≤◌, ◌<◌, ◌^◌, eqb, true, false, List, [], ◌∷◌, ◌++◌, length, ℤ, unsigned_abs, refl}
-use Rattle.std.proofs.Common.{sym, ◌∙◌, ap, ap₂, subst, arith, append_assoc, inl}
-use Rattle.std.proofs.lemmas.Bool.{eqb-true, eqb-false, ne_eqb}
+use Rattle.std.specs.Prelude.{◌≡◌, ℕ, suc, ◌+◌, ◌≤◌, ◌<◌, List, [], ◌∷◌, ◌++◌, refl}
+use Rattle.std.proofs.Common.{sym, ◌∙◌, ap, subst, arith, append_assoc}
 use Rattle.std.proofs.lemmas.List.{append-nil}
-use Rattle.std.specs.Fmt.{signed_decimal}
 use Rattle.dc_cert.specs.declared.sparse.Item.{Item}
 use Rattle.dc_cert.specs.declared.sparse.Sparse.{Sparse}
 use Rattle.dc_cert.specs.Vectors.{IsItem, AreItems, IsVector}
 use Rattle.dc_cert.proofs.VectorLaws.{AreWithin, within-append, within_items}
 use Rattle.dc_lines.specs.Bytes.{Bytes, spaced}
 use Rattle.dc_certtext.specs.Words.{item_text, vector_text}
-use Rattle.dc_lines.specs.Cuts.{Starts, until, onward}
-use Rattle.dc_lines.proofs.Cutting.{tail_of, nil_not, until-append, cut_whole, onward-starts, same_cut, spaced-starts, spaced-append}
-use Rattle.dc_lines.proofs.Numerals.{whole_lacks, whole_one}
+use Rattle.dc_lines.specs.Cuts.{Starts, until}
+use Rattle.dc_lines.proofs.Cutting.{tail_of, nil_not, until-append, same_cut, spaced-starts, spaced-append}
 use Rattle.dc_certtext.proofs.Fractions.{item-lacks, item_one}
 
 -- ---- the first item

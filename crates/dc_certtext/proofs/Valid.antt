@@ -65,22 +65,25 @@ pub record AreEdges (done : List EdgeCert) (e : EdgeCert) : Type 0 where
   pub last_one : IsEdge e
 
 abbrev pub IsFound : Found → Type 0
-IsFound F.None = Unit {0}
-IsFound (F.One u) = IsVector u
-IsFound (F.Two u l) = IsVector u × IsVector l
-IsFound (F.Three u l r) = IsVector u × IsVector l × IsVector r
+IsFound (F.Threshold t) = Unit {0}
+IsFound (F.ThresholdUnknown t u) = IsVector u
+IsFound (F.ThresholdLambda t u l) = IsVector u × IsVector l
+IsFound F.Nothing = Unit {0}
+IsFound F.Vacuous = Unit {0}
+IsFound (F.VacuousUnknown u) = IsVector u
+IsFound (F.VacuousLambda u l) = IsVector u × IsVector l
+IsFound (F.VacuousRay u l r) = IsVector u × IsVector l × IsVector r
 
--- some vector of the claim is still to come
-abbrev pub Lacking : Claim → Found → Type 0
-Lacking (C.Threshold t) (F.Three u l r) = ⊥
-Lacking (C.Threshold t) F.None = Unit {0}
-Lacking (C.Threshold t) (F.One u) = Unit {0}
-Lacking (C.Threshold t) (F.Two u l) = Unit {0}
-Lacking C.Nothing F.None = Unit {0}
-Lacking C.Nothing (F.One u) = ⊥
-Lacking C.Nothing (F.Two u l) = ⊥
-Lacking C.Nothing (F.Three u l r) = ⊥
-Lacking C.Vacuous f = Unit {0}
+-- the claim of the vectors that are read
+abbrev pub claimed : Found → Claim
+claimed (F.Threshold t) = C.Threshold t
+claimed (F.ThresholdUnknown t u) = C.Threshold t
+claimed (F.ThresholdLambda t u l) = C.Threshold t
+claimed F.Nothing = C.Nothing
+claimed F.Vacuous = C.Vacuous
+claimed (F.VacuousUnknown u) = C.Vacuous
+claimed (F.VacuousLambda u l) = C.Vacuous
+claimed (F.VacuousRay u l r) = C.Vacuous
 
 abbrev pub Valid : Stage → Type 0
 Valid Start = Unit {0}
@@ -95,6 +98,6 @@ Valid (Entries f fam done last) = IsFull f.head × IsNew f.head.cases f.new × A
 Valid (Edges f fam ents done live last) = IsFull f.head × IsNew f.head.cases f.new × AreFamilies fam × AreAllEntries f.head.cases ents × AreEdges done (record { live = live; keeps = last })
 Valid (Between h n) = IsFull h × IsSide h.cases n
 Valid (Closed h n o) = IsFull h × IsSide h.cases n × IsSide h.cases o
-Valid (Main h n o found) = IsFull h × IsSide h.cases n × IsSide h.cases o × IsFound found × Lacking h.claim found
+Valid (Main h n o found) = IsFull h × IsSide h.cases n × IsSide h.cases o × IsFound found × (h.claim ≡ claimed found)
 Valid (End c) = IsCertificate c
 Valid (Done c) = IsCertificate c

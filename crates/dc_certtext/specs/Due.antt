@@ -1,6 +1,7 @@
--- The vectors of the main problem, one after another: the word of the one that is due, and what is
--- read with it.
-use Rattle.std.specs.Prelude.{codes, Option, Some, None}
+-- The vectors of the main problem, one after another: for what is read, the word of the one that is
+-- due, and what is read with it.
+use Rattle.std.specs.Prelude.{codes, ◌⊎◌}
+use Rattle.std.proofs.Common.{inl, inr}
 use Rattle.dc_cert.specs.declared.sparse.Sparse.{Sparse}
 use Rattle.dc_cert.specs.declared.certificate.SideCert.{SideCert}
 use Rattle.dc_cert.specs.declared.certificate.Body.TheVariants as B
@@ -26,30 +27,29 @@ certificate h n o b = record {
   old_side = o;
 }
 
-abbrev pub due : Claim → Found → Option Bytes
-due (C.Threshold t) F.None = Some (codes "unknown")
-due (C.Threshold t) (F.One u) = Some (codes "lambda")
-due (C.Threshold t) (F.Two u l) = Some (codes "dual")
-due (C.Threshold t) (F.Three u l r) = None
-due C.Nothing F.None = Some (codes "dual")
-due C.Nothing (F.One u) = None
-due C.Nothing (F.Two u l) = None
-due C.Nothing (F.Three u l r) = None
-due C.Vacuous F.None = Some (codes "unknown")
-due C.Vacuous (F.One u) = Some (codes "lambda")
-due C.Vacuous (F.Two u l) = Some (codes "ray unknown")
-due C.Vacuous (F.Three u l r) = Some (codes "ray lambda")
+-- where no vector is read yet
+abbrev pub nothing_found : Claim → Found
+nothing_found (C.Threshold t) = F.Threshold t
+nothing_found C.Nothing = F.Nothing
+nothing_found C.Vacuous = F.Vacuous
 
-abbrev pub with_vector : Head → SideCert → SideCert → Claim → Found → Sparse → Stage
-with_vector h n o (C.Threshold t) F.None s = Main h n o (F.One s)
-with_vector h n o (C.Threshold t) (F.One u) s = Main h n o (F.Two u s)
-with_vector h n o (C.Threshold t) (F.Two u l) s = End (certificate h n o (B.Threshold t u l s))
-with_vector h n o (C.Threshold t) (F.Three u l r) s = End (certificate h n o (B.Vacuous u l r s))
-with_vector h n o C.Nothing F.None s = End (certificate h n o (B.Nothing s))
-with_vector h n o C.Nothing (F.One u) s = Main h n o (F.Two u s)
-with_vector h n o C.Nothing (F.Two u l) s = Main h n o (F.Three u l s)
-with_vector h n o C.Nothing (F.Three u l r) s = End (certificate h n o (B.Vacuous u l r s))
-with_vector h n o C.Vacuous F.None s = Main h n o (F.One s)
-with_vector h n o C.Vacuous (F.One u) s = Main h n o (F.Two u s)
-with_vector h n o C.Vacuous (F.Two u l) s = Main h n o (F.Three u l s)
-with_vector h n o C.Vacuous (F.Three u l r) s = End (certificate h n o (B.Vacuous u l r s))
+-- the word of the vector that is due, and what is read with that vector: more, or all
+abbrev pub vectors : Found → Bytes × (Sparse → Found ⊎ Body)
+vectors (F.Threshold t) = (codes "unknown", λ s. inl (F.ThresholdUnknown t s))
+vectors (F.ThresholdUnknown t u) = (codes "lambda", λ s. inl (F.ThresholdLambda t u s))
+vectors (F.ThresholdLambda t u l) = (codes "dual", λ s. inr (B.Threshold t u l s))
+vectors F.Nothing = (codes "dual", λ s. inr (B.Nothing s))
+vectors F.Vacuous = (codes "unknown", λ s. inl (F.VacuousUnknown s))
+vectors (F.VacuousUnknown u) = (codes "lambda", λ s. inl (F.VacuousLambda u s))
+vectors (F.VacuousLambda u l) = (codes "ray unknown", λ s. inl (F.VacuousRay u l s))
+vectors (F.VacuousRay u l r) = (codes "ray lambda", λ s. inr (B.Vacuous u l r s))
+
+abbrev pub due : Found → Bytes
+due f = (vectors f).0
+
+abbrev pub stage_of : Head → SideCert → SideCert → Found ⊎ Body → Stage
+stage_of h n o (inl f) = Main h n o f
+stage_of h n o (inr b) = End (certificate h n o b)
+
+abbrev pub with_vector : Head → SideCert → SideCert → Found → Sparse → Stage
+with_vector h n o f s = stage_of h n o ((vectors f).1 s)

@@ -5,20 +5,15 @@ use Rattle.dc_cert.specs.declared.sparse.Sparse.{Sparse}
 use Rattle.dc_cert.specs.declared.certificate.Liveness.{Liveness}
 use Rattle.dc_cert.specs.declared.certificate.EdgeCert.{EdgeCert}
 use Rattle.dc_cert.specs.declared.certificate.SideCert.{SideCert}
-use Rattle.dc_cert.specs.declared.certificate.Body.{Body}
-use Rattle.dc_cert.specs.declared.certificate.Body.TheVariants as B
-use Rattle.dc_cert.specs.declared.certificate.Certificate.{Certificate}
 use Rattle.dc_cert.specs.declared.certificate.Claim.{Claim}
 use Rattle.dc_cert.specs.declared.certificate.Claim.TheVariants as C
 use Rattle.dc_certtext.specs.declared.stage.Head.{Head}
 use Rattle.dc_certtext.specs.declared.stage.Front.{Front}
-use Rattle.dc_certtext.specs.declared.stage.Found.{Found}
-use Rattle.dc_certtext.specs.declared.stage.Found.TheVariants as F
 use Rattle.dc_certtext.specs.declared.stage.Stage.{Stage}
 use Rattle.dc_certtext.specs.declared.stage.Stage.TheVariants.{Start, Whole, Version, Sizes, Cases, Heads, Opened, Locations, Entries, Edges, Between, Closed, Main, End, Done}
 use Rattle.dc_lines.specs.Bytes.{Bytes}
 use Rattle.dc_certtext.specs.Text.{whole_line, numbered, entry_line}
-use Rattle.dc_certtext.specs.Due.{due, with_vector}
+use Rattle.dc_certtext.specs.Due.{nothing_found, due, with_vector}
 use Rattle.dc_certtext.specs.Offers.{plain, vector, shown, atom, fraction, number, sizes, Offer, offer, Any}
 
 abbrev pub head : Claim → ℕ → ℕ → ℕ → ℕ → List Liveness → Head
@@ -50,14 +45,6 @@ sized c v d k = cond (eqb v 1) (Heads (head c 1 d k 1 [])) (Cases c d k)
 abbrev pub closed_by : Head → Option SideCert → SideCert → Stage
 closed_by h None s = Between h s
 closed_by h (Some n) s = Closed h n s
-
--- the vector that is due, nothing behind the last one
-abbrev pub vector_offers : Option Bytes → (Sparse → Stage) → List Offer
-vector_offers None f = []
-vector_offers (Some word) f = offer true word (vector f) ∷ []
-
-abbrev pub vectors_next : Head → SideCert → SideCert → Claim → Found → List Offer
-vectors_next h n o c found = vector_offers (due c found) (with_vector h n o c found)
 
 abbrev pub offers : Stage → List Offer
 offers Start =
@@ -97,8 +84,8 @@ offers (Edges f fam ents done live last) =
     (shown (λ l. closed_by f.head f.new (side_of fam ents (done ++ edge_of live last ∷ []) l)))
     ∷ []
 offers (Between h n) = offer true (codes "side old") (plain (Opened (front h (Some n)))) ∷ []
-offers (Closed h n o) = offer true (codes "main") (plain (Main h n o F.None)) ∷ []
-offers (Main h n o found) = vectors_next h n o h.claim found
+offers (Closed h n o) = offer true (codes "main") (plain (Main h n o (nothing_found h.claim))) ∷ []
+offers (Main h n o found) = offer true (due found) (vector (λ s. with_vector h n o found s)) ∷ []
 offers (End c) = offer true (codes "end") (plain (Done c)) ∷ []
 offers (Done c) = []
 

@@ -1,5 +1,5 @@
 -- How numbers, fractions and vectors are spelt.
-use Rattle.std.specs.Prelude.{ℕ, eqb, cond, List, [], ◌∷◌, ◌++◌, unsigned_abs}
+use Rattle.std.specs.Prelude.{ℕ, eqb, cond, [], ◌∷◌, ◌++◌, unsigned_abs}
 use Rattle.std.specs.Fmt.{decimal, signed_decimal}
 use Rattle.dc_lines.specs.Bytes.{Bytes, spaced}
 use Rattle.dc_frac.specs.declared.Frac.{Frac}

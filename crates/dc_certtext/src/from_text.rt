@@ -18,9 +18,10 @@ use thiserror::Error;
 /// Why bytes are not read as a certificate.
 #[derive(Debug, Drop, Error)]
 pub enum ReadFault {
-    /// The bytes are no certificate's text. The line, from 1 on, is the first with which no certificate's text
-    /// goes on, of any length; in a text of more than 16,777,216 bytes it is at most the line of byte
-    /// 16,777,217; where all lines go on it is the one behind the last line feed.
+    /// The bytes are no certificate's text. The line, from 1 on, is the first with which no
+    /// certificate's text goes on, of any length; in a text of more than 16,777,216 bytes it is at
+    /// most the line of byte 16,777,217; where all lines go on it is the one behind the last line
+    /// feed.
     #[error("not the text of a certificate")]
     BadText { line: u64 },
     #[error("out of memory")]

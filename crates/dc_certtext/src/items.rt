@@ -81,7 +81,8 @@ fn next_number(text: &[u8]) -> Option<(i64, &[u8])>
     ensures { MatchOption result
         ((z : ℤ) (r : List ℕ) → unsigned_abs z ≤ 2147483648 → Starts 32 r
         → ¬ (32 ∷ (signed_decimal z ++ r) ≡ text.now))
-        (λ p. (unsigned_abs p.0 ≤ 2147483648) × Starts 32 p.1.now × (32 ∷ (signed_decimal p.0 ++ p.1.now) ≡ text.now)) }
+        (λ p. (unsigned_abs p.0 ≤ 2147483648) × Starts 32 p.1.now
+        × (32 ∷ (signed_decimal p.0 ++ p.1.now) ≡ text.now)) }
 {
     let Some((next, more)) = next_field(text) else {
         return None;

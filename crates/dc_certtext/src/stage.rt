@@ -4,7 +4,7 @@
 ghost use Rattle.std.specs.Prelude.{◌≡◌, IfOk, IfErr};
 ghost use Rattle.dc_cert.specs.declared.certificate.Certificate.{Certificate as Whole};
 ghost use Rattle.dc_certtext.specs.Stages.{Steps, closed_by};
-ghost use Rattle.dc_certtext.specs.Due.{certificate as certificate_of, with_vector as stage_with};
+ghost use Rattle.dc_certtext.specs.Due.{certificate as certificate_of, due as due_word, nothing_found, with_vector as stage_with};
 
 use crate::step::{
     between, cases, edges, end, entries, floor, heads, locations, main_line, main_vector,
@@ -54,21 +54,29 @@ impl Drop for Front {
     }
 }
 
-/// The vectors of the main problem that are read.
+/// The vectors of the main problem that are read, by the claim, up to the one that is named.
 pub enum Found {
-    None,
-    One(Sparse),
-    Two(Sparse, Sparse),
-    Three(Sparse, Sparse, Sparse),
+    Threshold(Frac),
+    ThresholdUnknown(Frac, Sparse),
+    ThresholdLambda(Frac, Sparse, Sparse),
+    Nothing,
+    Vacuous,
+    VacuousUnknown(Sparse),
+    VacuousLambda(Sparse, Sparse),
+    VacuousRay(Sparse, Sparse, Sparse),
 }
 
 impl Drop for Found {
     fn drop(self) {
         match self {
-            Found::None => {}
-            Found::One(_a) => {}
-            Found::Two(_a, _b) => {}
-            Found::Three(_a, _b, _c) => {}
+            Found::Threshold(_) => {}
+            Found::ThresholdUnknown(_, _u) => {}
+            Found::ThresholdLambda(_, _u, _l) => {}
+            Found::Nothing => {}
+            Found::Vacuous => {}
+            Found::VacuousUnknown(_u) => {}
+            Found::VacuousLambda(_u, _l) => {}
+            Found::VacuousRay(_u, _l, _r) => {}
         }
     }
 }
@@ -160,45 +168,63 @@ impl Front {
 }
 
 impl Found {
+    // No vector yet.
+    pub(crate) fn nothing(claim: &Claim) -> Found
+        ensures { result ≡ nothing_found claim.now }
+    {
+        match claim {
+            Claim::Threshold(t) => Found::Threshold(*t),
+            Claim::Nothing => Found::Nothing,
+            Claim::Vacuous => Found::Vacuous,
+        }
+    }
+
+    // The word of the vector that is due.
+    pub(crate) fn due(&self) -> &'static [u8]
+        ensures { result.now ≡ due_word self.now }
+    {
+        match self {
+            Found::Threshold(_) | Found::Vacuous => b"unknown",
+            Found::ThresholdUnknown(_, _) | Found::VacuousUnknown(_) => b"lambda",
+            Found::ThresholdLambda(_, _, _) | Found::Nothing => b"dual",
+            Found::VacuousLambda(_, _) => b"ray unknown",
+            Found::VacuousRay(_, _, _) => b"ray lambda",
+        }
+    }
+
     // What is read with one vector more.
     pub(crate) fn with_vector(self, head: Head, new: SideCert, old: SideCert, s: Sparse) -> Stage
-        ensures { result ≡ stage_with head new old head.claim self s }
+        ensures { result ≡ stage_with head new old self s }
     {
-        let claim = head.claim;
-        match self {
-            Found::None => match claim {
-                Claim::Nothing => Stage::End(head.certificate(new, old, Body::Nothing { dual: s })),
-                Claim::Threshold(_) | Claim::Vacuous => {
-                    Stage::Main(head, new, old, Found::One(s))
-                }
-            },
-            Found::One(unknown) => Stage::Main(head, new, old, Found::Two(unknown, s)),
-            Found::Two(unknown, lambda) => match claim {
-                Claim::Threshold(t) => Stage::End(head.certificate(
-                    new,
-                    old,
-                    Body::Threshold {
-                        t,
-                        unknown,
-                        lambda,
-                        dual: s,
-                    },
-                )),
-                Claim::Nothing | Claim::Vacuous => {
-                    Stage::Main(head, new, old, Found::Three(unknown, lambda, s))
-                }
-            },
-            Found::Three(unknown, lambda, ray_unknown) => Stage::End(head.certificate(
-                new,
-                old,
-                Body::Vacuous {
+        let found = match self {
+            Found::Threshold(t) => Found::ThresholdUnknown(t, s),
+            Found::ThresholdUnknown(t, unknown) => Found::ThresholdLambda(t, unknown, s),
+            Found::ThresholdLambda(t, unknown, lambda) => {
+                let body = Body::Threshold {
+                    t,
+                    unknown,
+                    lambda,
+                    dual: s,
+                };
+                return Stage::End(head.certificate(new, old, body));
+            }
+            Found::Nothing => {
+                return Stage::End(head.certificate(new, old, Body::Nothing { dual: s }));
+            }
+            Found::Vacuous => Found::VacuousUnknown(s),
+            Found::VacuousUnknown(unknown) => Found::VacuousLambda(unknown, s),
+            Found::VacuousLambda(unknown, lambda) => Found::VacuousRay(unknown, lambda, s),
+            Found::VacuousRay(unknown, lambda, ray_unknown) => {
+                let body = Body::Vacuous {
                     unknown,
                     lambda,
                     ray_unknown,
                     ray_lambda: s,
-                },
-            )),
-        }
+                };
+                return Stage::End(head.certificate(new, old, body));
+            }
+        };
+        Stage::Main(head, new, old, found)
     }
 }
 

@@ -2,7 +2,6 @@
 ghost use Rattle.std.specs.Prelude.{ℕ, ◌≡◌, ◌≤◌, IfOk, MatchOption};
 ghost use Rattle.dc_certtext.specs.Stages.{Steps, sized as sized_stage, with_when as head_with};
 ghost use Rattle.dc_certtext.specs.Text.{entry_line, numbered, sizes_line, whole_line};
-ghost use Rattle.dc_certtext.specs.Due.{due as due_word};
 
 use crate::behind::{atom_behind, fraction_behind, number_behind, shown_behind, vector_behind};
 use crate::stage::{Found, Front, Head, Stage};
@@ -372,26 +371,10 @@ pub(crate) fn main_line(line: &[u8], head: Head, new: SideCert, old: SideCert) -
     ensures { Steps (Stage.Closed head new old) line.now result }
 {
     if is_same(line, b"main") {
-        return Some(Stage::Main(head, new, old, Found::None));
+        let found = Found::nothing(&head.claim);
+        return Some(Stage::Main(head, new, old, found));
     }
     None
-}
-
-// The word of the vector that is due, none behind the last.
-fn due(claim: &Claim, found: &Found) -> Option<&'static [u8]>
-    ensures { MatchOption result (due_word claim.now found.now ≡ None)
-        (λ w. due_word claim.now found.now ≡ Some w.now) }
-{
-    match (claim, found) {
-        (Claim::Nothing, Found::None) => Some(b"dual"),
-        (Claim::Nothing, _) => None,
-        (_, Found::None) => Some(b"unknown"),
-        (_, Found::One(_)) => Some(b"lambda"),
-        (Claim::Threshold(_), Found::Two(_, _)) => Some(b"dual"),
-        (Claim::Threshold(_), Found::Three(_, _, _)) => None,
-        (Claim::Vacuous, Found::Two(_, _)) => Some(b"ray unknown"),
-        (Claim::Vacuous, Found::Three(_, _, _)) => Some(b"ray lambda"),
-    }
 }
 
 // A vector of the main problem.
@@ -405,10 +388,7 @@ pub(crate) fn main_vector(
 ) -> Result<Option<Stage>, AllocError>
     ensures { IfOk result (λ o. Steps (Stage.Main head new old found) line.now o) }
 {
-    let Some(word) = due(&head.claim, &found) else {
-        return Ok(None);
-    };
-    let Some(s) = vector_behind(alloc, line, word)? else {
+    let Some(s) = vector_behind(alloc, line, found.due())? else {
         return Ok(None);
     };
     Ok(Some(found.with_vector(head, new, old, s)))

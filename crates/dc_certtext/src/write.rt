@@ -316,7 +316,10 @@ fn rays(
     ray_lambda: &Sparse,
 ) -> Result<(), AllocError>
     ensures { OnOk result (out.new.items ≡ out.old.items
-        ++ ended (vector_line (codes "unknown") unknown.now ∷ vector_line (codes "lambda") lambda.now ∷ vector_line (codes "ray unknown") ray_unknown.now ∷ vector_line (codes "ray lambda") ray_lambda.now ∷ [])) }
+        ++ ended (vector_line (codes "unknown") unknown.now
+        ∷ vector_line (codes "lambda") lambda.now
+        ∷ vector_line (codes "ray unknown") ray_unknown.now
+        ∷ vector_line (codes "ray lambda") ray_lambda.now ∷ [])) }
 {
     pair(alloc, out, b"unknown", unknown, b"lambda", lambda)?;
     pair(
@@ -381,8 +384,8 @@ pub enum WriteFault {
     NoMemory,
 }
 
-/// The lines of a claim, as a certificate's text begins and as the commands print them: `threshold
-/// F` with `whole W` below, `none`, or `vacuous`, each with its line feed.
+/// The lines of a claim, with which a certificate's text begins: `threshold F` with `whole W` below,
+/// `none`, or `vacuous`, each with its line feed.
 pub fn write_claim(alloc: Global, what: &Claim) -> Result<Vec<u8>, AllocError>
     ensures { IfOk result (λ v. v.items ≡ ended (claim_lines what.now)) }
 {

@@ -48,8 +48,8 @@ dense_same : (n : ℕ) (a : ℕ → ℤ) (s : Sparse) (v : List Frac) → IsDens
 dense_same n a s v d = folded_same n a a (entry_of s.items) (numbers v) (λ k l. refl) (λ k l. each k l v refl)
   where
     each : (k : ℕ) → k < n → (w : List Frac) → w ≡ v → entry_of s.items k ≡ numbers v k
-    each k l [] e = absurd (let p = d.places in let q : 0 ≡ length v = ap length e in omega arith)
-    each k l (f ∷ w) e = sym (d.entries k f l) ∙ sym (numbers-at v k f (let p = d.places in omega arith))
+    each k l [] e = absurd (let p = d.count in let q : 0 ≡ length v = ap length e in omega arith)
+    each k l (f ∷ w) e = sym (d.entries k f l) ∙ sym (numbers-at v k f (let p = d.count in omega arith))
 
 pub sums_over_items : SumsOverItems
 sums_over_items n a s h b =

@@ -1,19 +1,20 @@
 -- What the shape of a certificate's part gives.
 use Rattle.std.specs.Prelude.{◌≡◌, ℕ, zero, suc, ◌<◌, ◌≤◌, ◌&&◌, Bool, true, false, eqb, leb, if◌then◌else◌, List, [], ◌∷◌, length}
-use Rattle.std.specs.List.{AllByRecursion, list_all}
-use Rattle.std.proofs.Common.{refl, sym, ◌∙◌, ap, subst, arith, get_or, length-append}
+use Rattle.std.specs.List.{list_all}
+use Rattle.std.proofs.Common.{refl, ◌∙◌, ap, arith, get_or, length-append}
 use Rattle.std.proofs.lemmas.Bool.{and_parts, and_from, eqb-true, leb-true, le-leb}
 use Rattle.dc_math.specs.Members.{each_at_or, each_is}
 use Rattle.dc_affine.specs.declared.atom.Atom.{Atom}
 use Rattle.dc_system.specs.declared.edges.Edge.{Edge}
 use Rattle.dc_system.specs.declared.edges.System.{System}
 use Rattle.dc_system.specs.Shapes as shapes
+use Rattle.dc_cert.specs.Vectors.{in_range}
 use Rattle.dc_cert.specs.declared.certificate.EdgeCert.{EdgeCert}
 use Rattle.dc_cert.specs.declared.certificate.SideCert.{SideCert}
 use Rattle.dc_cert.specs.declared.sparse.Sparse.{Sparse}
 use Rattle.dc_cert.specs.declared.certificate.Liveness.{Liveness}
 use Rattle.dc_cert.specs.Ranges.{AreAtoms, IsEdge, IsSide, is_live}
-use Rattle.dc_clauses.specs.Lines.{in_range, line_in_range}
+use Rattle.dc_clauses.specs.Lines.{line_in_range}
 use Rattle.dc_clauses.specs.Sides.{paired, atoms_at, edge_atoms, edge_places, is_full, has_keeps, entry_fits, edge_fits, shape_fits, exit_atoms}
 use Rattle.dc_clauses.specs.Lent.{IsPart, IsShaped, IsEdgePart, keeps_fit, entry_fits_cases}
 

@@ -6,11 +6,12 @@ use Rattle.dc_affine.specs.Atoms.{IsAtom}
 use Rattle.dc_system.specs.declared.edges.Edge.{Edge}
 use Rattle.dc_system.specs.declared.edges.System.{System}
 use Rattle.dc_system.specs.Shapes as shapes
+use Rattle.dc_cert.specs.Vectors.{in_range}
 use Rattle.dc_cert.specs.declared.sparse.Sparse.{Sparse}
 use Rattle.dc_cert.specs.declared.certificate.EdgeCert.{EdgeCert}
 use Rattle.dc_cert.specs.declared.certificate.SideCert.{SideCert}
 use Rattle.dc_cert.specs.Ranges.{AreAtoms, AreKeeps, IsEdge, IsShown}
-use Rattle.dc_clauses.specs.Lines.{in_range, line_in_range}
+use Rattle.dc_clauses.specs.Lines.{line_in_range}
 use Rattle.dc_clauses.specs.Sides.{paired, atoms_at, edge_atoms, exit_atoms, is_full, edge_fits}
 
 -- at most 256 atoms over n places

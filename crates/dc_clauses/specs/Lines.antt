@@ -1,6 +1,6 @@
 -- What the lines of a certificate show of atoms.
-use Rattle.std.specs.Prelude.{ℕ, ◌+◌, Bool, ltb, eqb, if◌then◌else◌, List, [], ◌∷◌, ◌++◌, map, length, ℤ, pos, negsuc, Option, Some}
-use Rattle.std.specs.List.{range_with_len, list_all}
+use Rattle.std.specs.Prelude.{ℕ, ◌+◌, Bool, eqb, if◌then◌else◌, List, [], ◌∷◌, ◌++◌, map, length, ℤ, pos, negsuc, Option, Some}
+use Rattle.std.specs.List.{range_with_len}
 use Rattle.std.specs.Option.{option_map}
 use Rattle.dc_math.specs.Rational.{ℚ, of_ℤ, le_ℚ}
 use Rattle.dc_math.specs.Tests.{eq_ℚ, is_negative, is_positive}
@@ -11,7 +11,7 @@ use Rattle.dc_cert.specs.declared.sparse.Item.{Item}
 use Rattle.dc_cert.specs.declared.sparse.Sparse.{Sparse}
 use Rattle.dc_cert.specs.declared.certificate.Liveness.{Liveness}
 use Rattle.dc_cert.specs.declared.certificate.Liveness.TheVariants.{Dead, Live}
-use Rattle.dc_cert.specs.Vectors.{entry_of}
+use Rattle.dc_cert.specs.Vectors.{entry_of, in_range}
 use Rattle.dc_points.specs.Stated.{atom_number, coefficient_of}
 use Rattle.dc_clauses.specs.Steps.{Test}
 
@@ -19,10 +19,6 @@ use Rattle.dc_clauses.specs.Steps.{Test}
 -- the value at an index, 0 where there is no item
 abbrev pub at : Sparse → ℕ → ℚ
 at v k = entry_of v.items k
-
--- each index is below n
-abbrev pub in_range : ℕ → Sparse → Bool
-in_range n v = list_all (λ (i : Item). ltb i.index n) v.items
 
 -- each item is positive, in order
 abbrev pub signs : Sparse → List Test
@@ -37,7 +33,8 @@ part n a i = if eqb i n then a.c0 else coefficient_of a i
 abbrev pub part_sum : List Atom → ℕ → Sparse → ℕ → Option ℚ
 part_sum hyps n v i = folded (length hyps) (λ j. part n (atom_number hyps j) i) (at v)
 
--- the product of a vector with the parts of an atom, which are the atom's column of the empty problem
+-- the product of a vector with the parts of an atom, which are the atom's column of the empty
+-- problem
 abbrev pub column_sum : List Atom → ℕ → Sparse → ℕ → Option ℚ
 column_sum hyps n y j = folded (n + 1) (part n (atom_number hyps j)) (at y)
 
@@ -72,7 +69,8 @@ abbrev pub line_in_range : ℕ → ℕ → Liveness → Bool
 line_in_range atoms n (Dead v) = in_range atoms v
 line_in_range atoms n (Live y) = in_range (n + 1) y
 
--- ---- a keep: positive multipliers, whose sum has the atom's coefficients and a constant of at most the atom's; `more` is tested in between
+-- ---- a keep: positive multipliers, whose sum has the atom's coefficients and a constant of at
+-- most the atom's; `more` is tested in between
 abbrev pub keep_parts : List Atom → ℕ → Atom → List Test → Sparse → List Test
 keep_parts hyps n a more v =
     signs v ++ (more ++ (coefficient_parts hyps n v (coefficient_of a)

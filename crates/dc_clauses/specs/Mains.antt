@@ -5,6 +5,7 @@ use Rattle.std.specs.Option.{option_map}
 use Rattle.dc_math.specs.Rational.{ℚ}
 use Rattle.dc_math.specs.Tests.{eq_ℚ, is_negative, is_positive}
 use Rattle.dc_frac.specs.Value.{value}
+use Rattle.dc_cert.specs.Vectors.{in_range}
 use Rattle.dc_lp.specs.declared.Problem.{Problem}
 use Rattle.dc_lp.specs.Linear.{Linear}
 use Rattle.dc_lp.specs.Problems.{coefficient, whole_at}
@@ -14,7 +15,7 @@ use Rattle.dc_cert.specs.declared.sparse.Sparse.{Sparse}
 use Rattle.dc_cert.specs.declared.certificate.Body.{Body}
 use Rattle.dc_cert.specs.declared.certificate.Body.TheVariants.{Threshold, Nothing, Vacuous}
 use Rattle.dc_clauses.specs.Steps.{Test, all_of, Step, step, counted}
-use Rattle.dc_clauses.specs.Lines.{at, in_range, is, is_at_most}
+use Rattle.dc_clauses.specs.Lines.{at, is, is_at_most}
 
 -- a problem by columns, in whole numbers
 abbrev pub whole_problem : Problem → Linear ℤ
@@ -53,7 +54,8 @@ module _ (main : Linear ℤ) (u : ℕ) where
   abbrev pub right_fold : Sparse → Option ℚ
   right_fold dual = folded main.equations main.right_side (at dual)
 
-  -- ---- clause 7: the items are in range; 0 unknown, 1 lambda, 2 the ray's unknown, 3 the ray's lambda, 4 dual
+  -- ---- clause 7: the items are in range; 0 unknown, 1 lambda, 2 the ray's unknown, 3 the ray's
+  -- lambda, 4 dual
   abbrev pub range_step : ℕ → ℕ → Sparse → Step
   range_step k n v = step 7 k (Some (in_range n v))
 
@@ -65,7 +67,8 @@ module _ (main : Linear ℤ) (u : ℕ) where
       range_step 0 u unknown ∷ range_step 1 multipliers lambda ∷ range_step 2 u ray_unknown
       ∷ range_step 3 multipliers ray_lambda ∷ []
 
-  -- ---- clause 8: each item of lambda, then of the ray's lambda, is positive; the index is the item's
+  -- ---- clause 8: each item of lambda, then of the ray's lambda, is positive; the index is the
+  -- item's
   abbrev pub sign_step : Item → Step
   sign_step i = step 8 i.index (Some (is_positive (value i.value)))
 
@@ -86,7 +89,8 @@ module _ (main : Linear ℤ) (u : ℕ) where
   equation_tests (Vacuous unknown lambda ray_unknown ray_lambda) =
       map (equation_test main.right_side unknown lambda) (range_with_len 0 main.equations)
 
-  -- ---- clause 10: dual times the column of an unknown is its cost, times that of a multiplier at most 0; for `none` the costs count as 0
+  -- ---- clause 10: dual times the column of an unknown is its cost, times that of a multiplier at
+  -- most 0; for `none` the costs count as 0
   abbrev pub price_test : (ℕ → ℤ) → Sparse → ℕ → Test
   price_test cost dual k =
       if ltb k u then is (price_fold dual k) (cost (short_column k)) else is_at_most
@@ -98,7 +102,8 @@ module _ (main : Linear ℤ) (u : ℕ) where
   price_tests (Nothing dual) = map (price_test (λ j. pos 0) dual) (range_with_len 0 (u + multipliers))
   price_tests (Vacuous unknown lambda ray_unknown ray_lambda) = []
 
-  -- ---- clause 11: the threshold is unknown 0, and then dual times the right sides; for `none` the latter is positive
+  -- ---- clause 11: the threshold is unknown 0, and then dual times the right sides; for `none`
+  -- the latter is positive
   abbrev pub threshold_tests : Body → List Test
   threshold_tests (Threshold t unknown lambda dual) =
       all_of (Some (eq_ℚ (value t) (at unknown 0))

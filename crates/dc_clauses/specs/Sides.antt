@@ -5,6 +5,7 @@ use Rattle.dc_affine.specs.declared.atom.Atom.{Atom}
 use Rattle.dc_system.specs.declared.edges.Edge.{Edge}
 use Rattle.dc_system.specs.declared.edges.System.{System}
 use Rattle.dc_system.specs.After.{atom_after, is_affine_after}
+use Rattle.dc_cert.specs.Vectors.{in_range}
 use Rattle.dc_cert.specs.declared.sparse.Sparse.{Sparse}
 use Rattle.dc_cert.specs.declared.certificate.Liveness.{Liveness}
 use Rattle.dc_cert.specs.declared.certificate.EdgeCert.{EdgeCert}
@@ -12,7 +13,7 @@ use Rattle.dc_cert.specs.declared.certificate.SideCert.{SideCert}
 use Rattle.dc_cert.specs.declared.certificate.Certificate.{Certificate}
 use Rattle.dc_cert.specs.Ranges.{is_live}
 use Rattle.dc_clauses.specs.Steps.{Test, all_of, Step, counted}
-use Rattle.dc_clauses.specs.Lines.{in_range, line_parts, line_in_range, keep_parts}
+use Rattle.dc_clauses.specs.Lines.{line_parts, line_in_range, keep_parts}
 
 -- two lists, item by item; what one of them has more is left out
 abbrev pub paired : {A B C : Type 0} → (A → B → C) → List A → List B → List C
@@ -75,7 +76,8 @@ shape_fits s cases when x =
     && (list_all (λ fits. fits) (paired (edge_fits s x) s.edges x.edges)
     && line_in_range (length (exit_atoms s x)) s.vars x.exit_line))))
 
--- ---- clause 2: for each number, both the case and its line are there, and the line shows the case dead or live
+-- ---- clause 2: for each number, both the case and its line are there, and the line shows the
+-- case dead or live
 abbrev pub case_test : ℕ → Option (List Atom) → Option Liveness → Test
 case_test n None line = Some false
 case_test n (Some case) None = Some false
@@ -89,7 +91,8 @@ abbrev pub case_tests : ℕ → List (List Atom) → List Liveness → List Test
 case_tests n cases when =
     map (numbered_case n cases when) (range_with_len 0 (max (length cases) (length when)))
 
--- ---- clause 3: the keeps of the entry, case by case. Over the parameters alone an atom has its locals set to 0
+-- ---- clause 3: the keeps of the entry, case by case. Over the parameters alone an atom has its
+-- locals set to 0
 abbrev pub entry_test : System → List Atom → Atom → Sparse → Test
 entry_test s case a k = all_of (keep_parts case s.params a [] k)
 
@@ -104,7 +107,8 @@ edge_test s x e c = all_of (line_parts (edge_atoms x e) (edge_places s.vars e) c
 abbrev pub edge_tests : System → SideCert → List Test
 edge_tests s x = paired (edge_test s x) s.edges x.edges
 
--- ---- clause 5: the keeps of the edges, each for an atom of the target after the update, which is affine
+-- ---- clause 5: the keeps of the edges, each for an atom of the target after the update, which is
+-- affine
 abbrev pub keep_test : System → SideCert → Edge → Atom → Sparse → Test
 keep_test s x e a k =
     all_of (keep_parts (edge_atoms x e) (edge_places s.vars e) (atom_after s.vars e a)

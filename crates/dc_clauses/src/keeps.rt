@@ -6,9 +6,8 @@ ghost use Rattle.dc_affine.specs.Atoms.{IsAtom};
 ghost use Rattle.dc_system.specs.After.{atom_after as moved_of, is_affine_after};
 ghost use Rattle.dc_system.specs.Shapes.{IsEdge as IsEdgeOver};
 ghost use Rattle.dc_cert.specs.Ranges.{AreAtoms, AreKeeps};
-ghost use Rattle.dc_cert.specs.Vectors.{IsVector};
+ghost use Rattle.dc_cert.specs.Vectors.{IsVector, in_range};
 ghost use Rattle.dc_clauses.specs.Steps.{IsShort, IsWalk, counted, first_failure};
-ghost use Rattle.dc_clauses.specs.Lines.{in_range};
 ghost use Rattle.dc_clauses.specs.Lent.{IsEdgePart, IsPart, IsShaped, entry_fits_cases};
 ghost use Rattle.dc_clauses.specs.Sides.{atoms_at as atoms_of_location, edge_atoms, entry_test as shows_at_entry, entry_tests, keep_test as shows_after, keep_tests, paired};
 

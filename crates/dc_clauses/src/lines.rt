@@ -6,11 +6,11 @@ ghost use Rattle.dc_frac.specs.Value.{value};
 ghost use Rattle.dc_math.specs.Rational.{of_ℤ, le_ℚ};
 ghost use Rattle.dc_math.specs.Tests.{is_positive};
 ghost use Rattle.dc_lp.specs.Problems.{whole_at};
-ghost use Rattle.dc_cert.specs.Vectors.{IsVector, entry_of};
+ghost use Rattle.dc_cert.specs.Vectors.{IsVector, entry_of, in_range};
 ghost use Rattle.dc_cert.specs.Ranges.{IsShown};
 ghost use Rattle.dc_clauses.specs.Hyps.{atoms_of};
 ghost use Rattle.dc_clauses.specs.Steps.{Test, all_of};
-ghost use Rattle.dc_clauses.specs.Lines.{coefficient_parts, column_sum as column_sum_of, dead_parts, in_range, is, is_at_most, keep_parts, line_in_range, line_parts, live_parts, part_sum as part_sum_of};
+ghost use Rattle.dc_clauses.specs.Lines.{coefficient_parts, column_sum as column_sum_of, dead_parts, is, is_at_most, keep_parts, line_in_range, line_parts, live_parts, part_sum as part_sum_of};
 
 use crate::hyps::{Hyps, column_sum, part_sum};
 use crate::step::passes;

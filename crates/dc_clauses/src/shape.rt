@@ -1,8 +1,9 @@
 //! Clause 1: the shape of a program's part of a certificate.
 ghost use Rattle.std.specs.Prelude.{◌≡◌, ◌≤◌, ◌&&◌, length, slice_get};
 ghost use Rattle.std.specs.List.{list_all};
+ghost use Rattle.dc_cert.specs.Vectors.{in_range};
 ghost use Rattle.dc_clauses.specs.Hyps.{atoms_of};
-ghost use Rattle.dc_clauses.specs.Lines.{in_range, line_in_range as range_of_line};
+ghost use Rattle.dc_clauses.specs.Lines.{line_in_range as range_of_line};
 ghost use Rattle.dc_clauses.specs.Lent.{IsPart};
 ghost use Rattle.dc_clauses.specs.Sides.{case_range as range_of_case, edge_atoms, edge_fits as fits_edge, edge_places as places_of, entry_fits as fits_entry, has_keeps as keeps_of, is_full as full, paired, shape_fits as fits};
 ghost use Rattle.dc_clauses.specs.Sides.{atoms_at as atoms_at_of};
@@ -68,19 +69,12 @@ fn has_keeps(line: &Liveness, atoms: &[Atom], keeps: &[Sparse]) -> bool
     keeps.len() == count
 }
 
-/// Whether the indices of a vector are below a number.
-pub fn is_below(v: &Sparse, count: usize) -> bool
-    ensures { result ≡ in_range count v.now }
-{
-    v.items.as_slice().iter().all(|item| item.index < count)
-}
-
 /// Whether the indices of each vector are below a number.
 fn are_below(keeps: &[Sparse], count: usize) -> bool
     ensures { result ≡ list_all (in_range count) keeps.now }
 {
     for keep in keeps {
-        if !is_below(keep, count) {
+        if !keep.is_below(count) {
             return false;
         }
     }
@@ -93,8 +87,8 @@ pub fn line_is_below(line: &Liveness, atoms: usize, places: usize) -> bool
     ensures { result ≡ range_of_line atoms places line.now }
 {
     match line {
-        Liveness::Dead(v) => is_below(v, atoms),
-        Liveness::Live(y) => is_below(y, places + 1),
+        Liveness::Dead(v) => v.is_below(atoms),
+        Liveness::Live(y) => y.is_below(places + 1),
     }
 }
 

@@ -1,4 +1,4 @@
--- Texts that are cut at the first place of a byte.
+-- Texts that are cut at the first byte of a value.
 use Rattle.std.specs.Prelude.{◌≡◌, ℕ, suc, Bool, true, false, eqb, cond, List, [], ◌∷◌, ◌++◌, length, refl}
 use Rattle.std.proofs.Common.{sym, ◌∙◌, ap, arith, append_assoc}
 use Rattle.std.proofs.lemmas.Bool.{eq-eqb, eqb-true, eqb-false, ne_eqb}

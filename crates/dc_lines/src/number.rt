@@ -63,7 +63,8 @@ pub fn next_field(text: &[u8]) -> Option<(i64, &[u8])>
     ensures { MatchOption result
         ((z : ℤ) (r : List ℕ) → unsigned_abs z < 2 ^ 63 → Starts 32 r
         → ¬ (32 ∷ (signed_decimal z ++ r) ≡ text.now))
-        (λ p. (unsigned_abs p.0 < 2 ^ 63) × Starts 32 p.1.now × (32 ∷ (signed_decimal p.0 ++ p.1.now) ≡ text.now)) }
+        (λ p. (unsigned_abs p.0 < 2 ^ 63) × Starts 32 p.1.now
+        × (32 ∷ (signed_decimal p.0 ++ p.1.now) ≡ text.now)) }
 {
     let Some(inside) = strip(text, b" ") else {
         return None;

@@ -2,8 +2,8 @@
 ghost use Rattle.std.specs.Prelude.{ℕ, List, ◌∷◌, ◌≡◌, ◌≢◌, ◌++◌, MatchBool, MatchOption};
 ghost use Rattle.dc_lines.specs.Cuts.{Lacks, onward, until};
 
-/// The text up to the first place of a byte, and from there on: all of the text and nothing where
-/// the byte isn't there.
+/// The text up to the first byte of a value, and from there on: all of the text and nothing where
+/// there is none.
 pub fn cut(text: &[u8], at: u8) -> (&[u8], &[u8])
     ensures front { result.0.now ≡ until at text.now }
     ensures rest { result.1.now ≡ onward at text.now }

@@ -53,8 +53,8 @@ solved_same p u unknown lambda right sums m =
 
 dense_same : (n : ℕ) (a : ℕ → ℤ) (v : Sparse) (y : List Frac) → IsDense n v y → folded n a (numbers y) ≡ folded n a (at v)
 dense_same zero a v y d = folded_same 0 a a (numbers y) (at v) (λ k l. refl) (λ k l. absurd (omega arith))
-dense_same (suc n) a v [] d = absurd (let e = d.places in omega arith)
-dense_same (suc n) a v (f ∷ y) d = folded_same (suc n) a a (numbers (f ∷ y)) (at v) (λ k l. refl) (λ k l. numbers-at (f ∷ y) k f (let e = d.places in omega arith) ∙ d.entries k f l)
+dense_same (suc n) a v [] d = absurd (let e = d.count in omega arith)
+dense_same (suc n) a v (f ∷ y) d = folded_same (suc n) a a (numbers (f ∷ y)) (at v) (λ k l. refl) (λ k l. numbers-at (f ∷ y) k f (let e = d.count in omega arith) ∙ d.entries k f l)
 
 pub priced_same : (p : Problem) (u : ℕ) (cost : ℕ → ℤ) (v : Sparse) (y : List Frac) → u * 2 ≤ length p.columns.items → IsDense p.rows v y
     → map (priced (whole_problem p) u cost (numbers y)) (range_with_len 0 (short_columns p u)) ≡ map (price_test (whole_problem p) u cost v) (range_with_len 0 (u + multipliers (whole_problem p) u))

@@ -20,9 +20,9 @@ use Rattle.dc_lp.proofs.FoldSums.{folded-fits}
 use Rattle.dc_lp.proofs.Folding.{folded-none, added-zero}
 use Rattle.dc_cert.specs.declared.sparse.Item.{Item}
 use Rattle.dc_cert.specs.declared.sparse.Sparse.{Sparse}
-use Rattle.dc_cert.specs.Vectors.{AreItems, IsBelow, IsVector, entry_after, entry_of}
+use Rattle.dc_cert.specs.Vectors.{AreItems, IsBelow, IsVector, entry_after, entry_of, in_range}
 use Rattle.dc_cert.proofs.Returned.{entry-before}
-use Rattle.dc_clauses.specs.Lines.{at, in_range}
+use Rattle.dc_clauses.specs.Lines.{at}
 use Rattle.dc_clauses.specs.Mains.{whole_problem, short_column, short_coefficient, short_value, multipliers, left_fold}
 use Rattle.dc_clauses.proofs.Items.{folded-zeros}
 use Rattle.dc_mainlines.specs.Sums.{sum_of, sum_at, with_term, with_entry, with_items, AreSums}

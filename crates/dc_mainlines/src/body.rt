@@ -9,13 +9,13 @@ ghost use Rattle.dc_lp.specs.Problems.{IsWellFormed, whole_at, columns};
 ghost use Rattle.dc_lp.specs.Folds.{folded};
 ghost use Rattle.dc_cert.specs.declared.certificate.Body.TheVariants.{Threshold, Nothing, Vacuous};
 ghost use Rattle.dc_cert.specs.Ranges.{IsBody};
-ghost use Rattle.dc_cert.specs.Vectors.{IsVector};
+ghost use Rattle.dc_cert.specs.Vectors.{IsVector, in_range};
 ghost use Rattle.dc_clauses.specs.Steps.{all_of, counted, first_failure};
-ghost use Rattle.dc_clauses.specs.Lines.{at, in_range};
+ghost use Rattle.dc_clauses.specs.Lines.{at};
 ghost use Rattle.dc_clauses.specs.Mains.{claim_steps, equation_test, multipliers, price_test, range_step, range_steps, whole_problem};
 ghost use Rattle.dc_mainlines.specs.Sums.{later_steps, short_columns};
 
-use crate::steps::{entry, equation_failure, is_below, price_failure, right_sum, sign_failure};
+use crate::steps::{entry, equation_failure, price_failure, right_sum, sign_failure};
 use crate::sums::left_sums;
 use dc_cert::{Body, Sparse, dense_of};
 use dc_clauses::{Step, failure};
@@ -34,7 +34,7 @@ fn range_failure(
     ensures { result
         ≡ first_failure (range_step (whole_problem p.now) unknowns vector count v.now ∷ []) }
 {
-    failure(7, vector, Some(is_below(v, count)))
+    failure(7, vector, Some(v.is_below(count)))
 }
 
 /// The first vector with an item out of range.

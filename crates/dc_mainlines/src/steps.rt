@@ -7,9 +7,9 @@ ghost use Rattle.dc_frac.specs.Value.{value};
 ghost use Rattle.dc_math.specs.Rational.{le_ℚ, of_ℤ};
 ghost use Rattle.dc_lp.specs.Problems.{IsWellFormed, whole_at, columns};
 ghost use Rattle.dc_lp.specs.Folds.{folded, numbers};
-ghost use Rattle.dc_cert.specs.Vectors.{AreItems, IsBelow, IsVector, entry_of};
+ghost use Rattle.dc_cert.specs.Vectors.{AreItems, IsBelow, IsVector, entry_of, in_range};
 ghost use Rattle.dc_clauses.specs.Steps.{all_of, counted, first_failure};
-ghost use Rattle.dc_clauses.specs.Lines.{at, in_range};
+ghost use Rattle.dc_clauses.specs.Lines.{at};
 ghost use Rattle.dc_clauses.specs.Mains.{whole_problem};
 ghost use Rattle.dc_mainlines.specs.Sums.{priced, short_columns, signed, solved};
 
@@ -19,13 +19,6 @@ use dc_clauses::{Step, failure};
 use dc_frac::Frac;
 use dc_lp::{Problem, add_term, price};
 use std::cmp::Ordering;
-
-/// Whether the indices of a vector are below a number.
-pub fn is_below(v: &Sparse, count: usize) -> bool
-    ensures { result ≡ in_range count v.now }
-{
-    v.items.as_slice().iter().all(|item| item.index < count)
-}
 
 /// The first item that isn't positive.
 pub fn sign_failure(items: &[Item]) -> Option<Step>

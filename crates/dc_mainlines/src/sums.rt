@@ -3,8 +3,8 @@ ghost use Rattle.std.specs.Prelude.{◌≡◌, ◌+◌, ◌*◌, ◌≤◌, ◌<
 ghost use Rattle.dc_frac.specs.Fits.{IsSmall};
 ghost use Rattle.dc_frac.specs.Value.{value};
 ghost use Rattle.dc_lp.specs.Problems.{IsColumn, IsWellFormed, columns};
-ghost use Rattle.dc_cert.specs.Vectors.{IsBelow, IsVector};
-ghost use Rattle.dc_clauses.specs.Lines.{at, in_range};
+ghost use Rattle.dc_cert.specs.Vectors.{IsBelow, IsVector, in_range};
+ghost use Rattle.dc_clauses.specs.Lines.{at};
 ghost use Rattle.dc_clauses.specs.Mains.{left_fold, multipliers, short_column as column_of, whole_problem};
 ghost use Rattle.dc_mainlines.specs.Sums.{AreSums, sum_at, sum_of, with_entry, with_items, with_term};
 

@@ -16,16 +16,16 @@ use Rattle.clap.specs.declared.builder.action.ArgAction.{ArgAction}
 use Rattle.clap.specs.declared.builder.action.ArgAction.TheVariants.{Set, Append, SetTrue, SetFalse, Count}
 use Rattle.clap.specs.declared.error.kind.ErrorKind.TheVariants as kind
 use Rattle.clap.proofs.WalkLemmas.{list_any-map}
-use Rattle.dc_words.proofs.Walks.{at_one_place, passes-f, kind-f, arg_by_id-f, arg_by_long-f, arg_by_short-f, arg_by_index-f, settled-f, reacted-f, word_met-f, walked-f, walk-f, with_default-f, finished-f}
+use Rattle.dc_words.proofs.Walks.{at_one_address, passes-f, kind-f, arg_by_id-f, arg_by_long-f, arg_by_short-f, arg_by_index-f, settled-f, reacted-f, word_met-f, walked-f, walk-f, with_default-f, finished-f}
 
 abbrev f : Rule → Rule
-f = at_one_place
+f = at_one_address
 
-abbrev pub shape_at_one_place : Shape → Shape
-shape_at_one_place s = record s { rules = map at_one_place s.rules }
+abbrev pub shape_at_one_address : Shape → Shape
+shape_at_one_address s = record s { rules = map at_one_address s.rules }
 
 abbrev m : Shape → Shape
-m = shape_at_one_place
+m = shape_at_one_address
 
 -- ---- one use of an argument
 
@@ -129,16 +129,16 @@ word_fault-f s names t w word h = ap (λ x. if t then [] else x) (other_fault-f 
 positional_fault-f : (c : List Rule) (again : Bool) (a : Rule) (h : Held) → positional_fault (map f c) again (f a) h ≡ positional_fault c again a h
 positional_fault-f c again a h = ap (λ x. if is_pending a h.pending && takes_several a then [] else x) (settle_fault-f c again h)
 
-place_fault-f : (s : Shape) (o : Option Rule) (h : Held)
+positional_or_stray-f : (s : Shape) (o : Option Rule) (h : Held)
     → option_map_or (λ a. positional_fault (map f s.rules) s.args_override_self a h) (option_map f o) (stray_fault s)
     ≡ option_map_or (λ a. positional_fault s.rules s.args_override_self a h) o (stray_fault s)
-place_fault-f s None h = refl
-place_fault-f s (Some a) h = positional_fault-f s.rules s.args_override_self a h
+positional_or_stray-f s None h = refl
+positional_or_stray-f s (Some a) h = positional_fault-f s.rules s.args_override_self a h
 
 step_fault-f : (s : Shape) (position : ℕ) (h : Held) (step : Step) → step_fault (m s) position h step ≡ step_fault s position h step
 step_fault-f s position h value =
     ap (λ o. option_map_or (λ a. positional_fault (map f s.rules) s.args_override_self a h) o (stray_fault s)) (arg_by_index-f s.rules position)
-    ∙ place_fault-f s (arg_by_index s.rules position) h
+    ∙ positional_or_stray-f s (arg_by_index s.rules position) h
 step_fault-f s position h _ = refl
 
 turn_fault-f : (s : Shape) (names : Names) (w : Walk) (word : Text) → turn_fault (m s) names w word ≡ turn_fault s names w word
@@ -181,7 +181,7 @@ level_fault-f s names h words b below =
     (ap₂ or_else (ap (λ (x : Held). defaults_fault x.rows (map f s.rules)) (settled-f s.rules end) ∙ defaults_fault-f (settled s.rules end).rows s.rules)
     (ap (λ rows. check_fault (m s) rows b) (finished-f s.rules end) ∙ check_fault-f s (finished s.rules end) b))))
 
-pub built_fault-f : (a : App) (h : Held) (words : List Text) → built_fault (on_top shape_at_one_place a) h words ≡ built_fault a h words
+pub built_fault-f : (a : App) (h : Held) (words : List Text) → built_fault (on_top shape_at_one_address a) h words ≡ built_fault a h words
 built_fault-f a h words =
     let stop = (walk a.top.rules (names_of a) h words).stopped in
     let stops = ap (λ (w : Walk). w.stopped) (walk-f a.top.rules (names_of a) h words) in

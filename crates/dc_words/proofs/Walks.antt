@@ -18,16 +18,16 @@ use Rattle.clap.specs.declared.builder.value_parser.ValueParser.TheVariants as v
 use Rattle.clap.proofs.WalkLemmas.{find-map, list_any-map}
 use Rattle.dc_words.specs.Rules.{Lent, lent, texts_of}
 
--- the same parser, whose names lie at one place
+-- the same parser, whose names lie at one address
 abbrev pub settled_parser : ValueParser → ValueParser
 settled_parser (vp.Names names) = vp.Names (lent (texts_of names))
 settled_parser parser = parser
 
-abbrev pub at_one_place : Rule → Rule
-at_one_place a = record a { parser = option_map settled_parser a.parser }
+abbrev pub at_one_address : Rule → Rule
+at_one_address a = record a { parser = option_map settled_parser a.parser }
 
 abbrev f : Rule → Rule
-f = at_one_place
+f = at_one_address
 
 texts_of-lent : (ts : List Text) → map (λ (s : Bor Text). s.now) (map (λ (t : Text). record { ref_ptr = (0, 0); now = t }) ts) ≡ ts
 texts_of-lent [] = refl
@@ -38,30 +38,30 @@ same_names b t names =
     list_any-map (λ n. same_text b n t) (λ (s : Bor Text). s.now) (lent (texts_of names)).now
     ∙ (ap (list_any (λ n. same_text b n t)) (texts_of-lent (texts_of names)) ∙ sym (list_any-map (λ n. same_text b n t) (λ (s : Bor Text). s.now) names.now))
 
-accepts-place : (b : Bool) (p : ValueParser) (t : Text) → accepts b (settled_parser p) t ≡ accepts b p t
-accepts-place b (vp.Names names) t = same_names b t names
-accepts-place b _ t = refl
+accepts-settled : (b : Bool) (p : ValueParser) (t : Text) → accepts b (settled_parser p) t ≡ accepts b p t
+accepts-settled b (vp.Names names) t = same_names b t names
+accepts-settled b _ t = refl
 
-kind-place : (p : ValueParser) → refused_kind (settled_parser p) ≡ refused_kind p
-kind-place (vp.Names names) = refl
-kind-place _ = refl
+kind-settled : (p : ValueParser) → refused_kind (settled_parser p) ≡ refused_kind p
+kind-settled (vp.Names names) = refl
+kind-settled _ = refl
 
-reading-place : (p : ValueParser) → reading_of (settled_parser p) ≡ reading_of p
-reading-place (vp.Names names) = refl
-reading-place _ = refl
+reading-settled : (p : ValueParser) → reading_of (settled_parser p) ≡ reading_of p
+reading-settled (vp.Names names) = refl
+reading-settled _ = refl
 
-parser-place : (o : Option ValueParser) → parser_of_value (option_map settled_parser o) ≡ settled_parser (parser_of_value o)
-parser-place None = refl
-parser-place (Some p) = refl
+parser-settled : (o : Option ValueParser) → parser_of_value (option_map settled_parser o) ≡ settled_parser (parser_of_value o)
+parser-settled None = refl
+parser-settled (Some p) = refl
 
 pub passes-f : (a : Rule) (t : Text) → accepts a.ignore_case (parser_of_value (f a).parser) t ≡ accepts a.ignore_case (parser_of_value a.parser) t
-passes-f a t = ap (λ p. accepts a.ignore_case p t) (parser-place a.parser) ∙ accepts-place a.ignore_case (parser_of_value a.parser) t
+passes-f a t = ap (λ p. accepts a.ignore_case p t) (parser-settled a.parser) ∙ accepts-settled a.ignore_case (parser_of_value a.parser) t
 
 pub kind-f : (a : Rule) → refused_kind (parser_of_value (f a).parser) ≡ refused_kind (parser_of_value a.parser)
-kind-f a = ap refused_kind (parser-place a.parser) ∙ kind-place (parser_of_value a.parser)
+kind-f a = ap refused_kind (parser-settled a.parser) ∙ kind-settled (parser_of_value a.parser)
 
 reading-f : (a : Rule) → reading_by (f a) ≡ reading_by a
-reading-f a = ap reading_of (parser-place a.parser) ∙ reading-place (parser_of_value a.parser)
+reading-f a = ap reading_of (parser-settled a.parser) ∙ reading-settled (parser_of_value a.parser)
 
 -- ---- the argument that a word means
 

@@ -6,7 +6,7 @@ use Rattle.dc_cert.specs.Vectors.{entry_of}
 use Rattle.dc_cert.proofs.sparse.dense_of.Given as goal
 
 abbrev pub invariant-loop-k : goal.invariant-loop-k
-invariant-loop-k l = record { places : length l.list.items ≡ l._k; zero : (j : ℕ) (d : Frac) → j < l._k → value (slice_index_or l.list.items j d) ≡ of_ℤ (pos 0) }
+invariant-loop-k l = record { count : length l.list.items ≡ l._k; zero : (j : ℕ) (d : Frac) → j < l._k → value (slice_index_or l.list.items j d) ≡ of_ℤ (pos 0) }
 
 abbrev pub invariant-loop-item : goal.invariant-loop-item
-invariant-loop-item l = record { places : length l.list.items ≡ l.len; entries : (j : ℕ) (d : Frac) → j < l.len → value (slice_index_or l.list.items j d) ≡ entry_of (take l.item-index l.item-items) j }
+invariant-loop-item l = record { count : length l.list.items ≡ l.len; entries : (j : ℕ) (d : Frac) → j < l.len → value (slice_index_or l.list.items j d) ≡ entry_of (take l.item-index l.item-items) j }

@@ -1,6 +1,6 @@
 use Rattle.std.proofs.Common.{◌≡◌, drop}
 use Rattle.std.specs.List.{list_all}
-use Rattle.dc_clauses.specs.Lines.{in_range}
+use Rattle.dc_cert.specs.Vectors.{in_range}
 use Rattle.dc_clauses.proofs.shape.are_below.Given as goal
 
 abbrev pub invariant-loop-keep : goal.invariant-loop-keep
