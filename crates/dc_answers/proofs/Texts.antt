@@ -4,7 +4,7 @@ use Rattle.dc_syntax.specs.declared.tree.Proc.{Proc}
 use Rattle.dc_syntax.specs.Params.{params_of, HaveSameParams}
 use Rattle.dc_affine.specs.declared.atom.Atom.{Atom}
 use Rattle.dc_lines.specs.Bytes.{Bytes}
-use Rattle.dc_tokens.specs.Places.{line_at, column_at}
+use Rattle.dc_tokens.specs.Lines.{line_at, column_at}
 use Rattle.dc_grammar.specs.Language.{source, cond}
 use Rattle.dc_parse.specs.declared.fault.Fault.{Fault}
 use Rattle.dc_parse.specs.declared.fault.Kind.{Kind}

@@ -1,5 +1,5 @@
 -- From where the reader stops to what stands first in a text.
-use Rattle.std.proofs.Common.{◌≡◌, ℕ, zero, suc, ◌+◌, ◌-◌, ◌<◌, ◌≤◌, List, [], ◌∷◌, ◌++◌, length, take, get_or, refl, ap, sym, ◌∙◌, subst, arith, length-append, length-take, Some, None}
+use Rattle.std.proofs.Common.{◌≡◌, ℕ, zero, suc, ◌+◌, ◌-◌, ◌<◌, ◌≤◌, List, [], ◌∷◌, length, get_or, refl, ap, sym, ◌∙◌, subst, arith, length-append, length-take, Some, None}
 use Rattle.std.specs.declared.option.Option.{Option}
 use Rattle.std.proofs.lemmas.List.{take-take, take_all}
 use Rattle.dc_tokens.specs.declared.token.Token.{Token}
@@ -8,50 +8,32 @@ use Rattle.dc_grammar.specs.Language.{Name, language}
 use Rattle.dc_grammar.specs.Depth.{IsDeep}
 use Rattle.dc_grammar.specs.Reading.{Out, ok, fail, rest, Parses}
 use Rattle.dc_grammar.specs.Readers.{language_reader}
-use Rattle.dc_grammar.specs.Verdicts.{unexpected, too_deep, Shallow, Finds}
+use Rattle.dc_grammar.specs.Verdicts.{unexpected, too_deep, Finds}
 use Rattle.dc_grammar.proofs.Alone.{ends_whole}
-use Rattle.dc_grammar.proofs.Verdicts.{Wrong_at, Stuck, fails_at, more_at, ends_early, text_viable}
+use Rattle.dc_grammar.proofs.Verdicts.{Stuck, found_at, fails_at, more_at, ends_early, text_viable}
 use Rattle.dc_grammar.proofs.LanguageReader.{language_ahead}
 use Rattle.dc_descent.specs.declared.fault.Kind.TheVariants as f
-use Rattle.dc_descent.specs.Faults.{fault, place_at}
+use Rattle.dc_descent.specs.Faults.{fault, offset_at}
 use Rattle.dc_descent.specs.Reading.{IsCut, Tells}
 
-front : {T : Type 0} (u : List T) (t : T) (w : List T) → take (length u) (u ++ t ∷ w) ≡ u
-front [] t w = refl
-front (x ∷ u) t w = ap (λ v. x ∷ v) (front u t w)
-
-front_more : {T : Type 0} (u : List T) (t : T) (w : List T) → take (suc (length u)) (u ++ t ∷ w) ≡ u ++ t ∷ []
-front_more [] t w = refl
-front_more (x ∷ u) t w = ap (λ v. x ∷ v) (front_more u t w)
-
--- in the first m tokens, which are u, then t, then w, the token t is unexpected
-found_at : (x : Name) (ts : List Token) (m s : ℕ) (u : List Token) (t : Token) (w : List Token)
-    → take m ts ≡ u ++ t ∷ w → m ≤ length ts → length u ≤ s → Shallow IsDeep ts s → Wrong_at language x u t → Finds language IsDeep x ts (unexpected (length u))
-found_at x ts m s u t w q g k shallow wrong =
-    let l : length (take m ts) ≡ length u + suc (length w) = ap length q ∙ length-append u (t ∷ w) in
-    let c : length u < m = omega (arith, l, length-take m ts) in
-    let e1 : take (length u) ts ≡ u = sym (take-take (length u) m ts (omega arith)) ∙ (ap (take (length u)) q ∙ front u t w) in
-    let e2 : take (suc (length u)) ts ≡ u ++ t ∷ [] = sym (take-take (suc (length u)) m ts c) ∙ (ap (take (suc (length u))) q ∙ front_more u t w) in
-    (omega arith, subst (Viable language x) (sym e1) wrong.before, (λ v. wrong.after (subst (Viable language x) e2 v)), λ j h d. shallow j (omega arith) d)
-
--- the place of the token that is read at a number
-pub read_place : (ts : List Token) (n : ℕ) (t : Token) → n < length ts → place_at ts n ≡ (get_or ts n t).at
-read_place [] n t l = absurd (omega arith)
-read_place (x ∷ ts) zero t l = refl
-read_place (x ∷ ts) (suc n) t l = read_place ts n t (omega arith)
+-- the offset of the token that is read at an index
+pub read_offset : (ts : List Token) (n : ℕ) (t : Token) → n < length ts → offset_at ts n ≡ (get_or ts n t).at
+read_offset [] n t l = absurd (omega arith)
+read_offset (x ∷ ts) zero t l = refl
+read_offset (x ∷ ts) (suc n) t l = read_offset ts n t (omega arith)
 
 stuck_in : (x : Name) (ts p : List Token) (d : Option ℕ) → IsCut ts d p → (t : Token) (w : List Token) → Stuck language x p t w → Finds language IsDeep x ts (unexpected (length p - suc (length w)))
 stuck_in x ts p None c t w k =
     let l : length p ≡ length k.used + suc (length w) = ap length k.split ∙ length-append k.used (t ∷ w) in
     let n : length k.used ≡ length p - suc (length w) = omega (arith, l) in
     subst (λ v. Finds language IsDeep x ts (unexpected v)) n
-    (found_at x ts (length ts) (length ts) k.used t w (take_all (length ts) ts (omega arith) ∙ (sym c.1 ∙ k.split)) (omega arith) (omega (arith, l, ap length c.1)) c.0 k.wrong)
+    (found_at language IsDeep x ts (length ts) (length ts) k.used t w (take_all (length ts) ts (omega arith) ∙ (sym c.1 ∙ k.split)) (omega arith) (omega (arith, l, ap length c.1)) c.0 k.wrong)
 stuck_in x ts p (Some n) c t w k =
     let l : length p ≡ length k.used + suc (length w) = ap length k.split ∙ length-append k.used (t ∷ w) in
     let m : length k.used ≡ length p - suc (length w) = omega (arith, l) in
     let h : n < length ts = c.0.0 in
     subst (λ v. Finds language IsDeep x ts (unexpected v)) m
-    (found_at x ts (suc n) n k.used t w (sym c.1 ∙ k.split) (omega arith) (omega (arith, l, ap length c.1, length-take (suc n) ts)) c.0.2 k.wrong)
+    (found_at language IsDeep x ts (suc n) n k.used t w (sym c.1 ∙ k.split) (omega arith) (omega (arith, l, ap length c.1, length-take (suc n) ts)) c.0.2 k.wrong)
 
 stuck_at : (x : Name) (p : List Token) (o : Out Token) → Parses language_reader (ref x) p o → (t : Token) (w : List Token) → rest o ≡ t ∷ w → Stuck language x p t w
 stuck_at x p (ok a us) d t w e = more_at language_ahead x p a t w (subst (λ v. Parses language_reader (ref x) p (ok a v)) e d)
@@ -59,7 +41,7 @@ stuck_at x p (fail us) d t w e = fails_at language_ahead x p t w (subst (λ v. P
 
 -- a token is left
 pub tells_unexpected : (x : Name) (ts p : List Token) (d : Option ℕ) (o : Out Token) (left at : ℕ) → IsCut ts d p → Parses language_reader (ref x) p o → length (rest o) ≡ left → 0 < left
-    → place_at ts (length p - left) ≡ at → Tells x ts o (Some (fault f.Unexpected at))
+    → offset_at ts (length p - left) ≡ at → Tells x ts o (Some (fault f.Unexpected at))
 tells_unexpected x ts p d o left at c r e l q = go (rest o) refl
   where
     go : (us : List Token) → rest o ≡ us → Tells x ts o (Some (fault f.Unexpected at))
@@ -73,7 +55,7 @@ tells_unexpected x ts p d o left at c r e l q = go (rest o) refl
 
 -- none is left, and one is too deep
 pub tells_deep : (x : Name) (ts p : List Token) (n : ℕ) (o : Out Token) (at : ℕ) → IsCut ts (Some n) p → Parses language_reader (ref x) p o → length (rest o) ≡ 0
-    → place_at ts n ≡ at → Tells x ts o (Some (fault f.TooDeep at))
+    → offset_at ts n ≡ at → Tells x ts o (Some (fault f.TooDeep at))
 tells_deep x ts p n (ok a []) at c r e q =
     (too_deep n, (c.0.0, subst (Viable language x) c.1 (text_viable language x p a (ends_whole language_ahead x p a r)), c.0.1, c.0.2), λ end. ap (λ v. Some (fault f.TooDeep v)) q)
 tells_deep x ts p n (fail []) at c r e q =

@@ -50,7 +50,7 @@ pub lift : {X : Type 0} (r q : Rule TokenKind Name) (Is Of : Tree Token → X �
 lift r q Is Of (Ok x) s f d = f d.0 x d.1 d.2
 lift r q Is Of (Err e) s f d = s e d
 
--- ---- statements, and the places at which they begin
+-- ---- statements, and the offsets at which they begin
 
 abbrev pub both_of : (Token → ℕ) → Tree Token → List Stmt × List ℕ → List Stmt × List ℕ
 both_of p t v = (v.0 ++ stmts_of p t, v.1 ++ starts_of t)
@@ -68,7 +68,7 @@ both_more p x b xs ys ns ms s e f g =
 pub begun_first : (old new : List ℕ) (p q : ℕ) → new ≡ old ++ p ∷ [] → p ≡ q → new ≡ old ++ q ∷ []
 begun_first old new p q e g = e ∙ ap (λ z. old ++ z ∷ []) g
 
--- one place, then those inside
+-- one offset, then those inside
 pub begun_then : (old mid new inner : List ℕ) (p q : ℕ) → mid ≡ old ++ p ∷ [] → new ≡ mid ++ inner → p ≡ q → new ≡ old ++ q ∷ inner
 begun_then old mid new inner p q e f g = f ∙ (ap (λ z. z ++ inner) e ∙ (append_assoc old (p ∷ []) inner ∙ ap (λ z. old ++ z ∷ inner) g))
 

@@ -47,7 +47,7 @@ found names name i l h e = sym (at_place (length names) i _ (position_or_len_is 
 pub not_found : (names : List (List ℕ)) (name : List ℕ) (i : ℕ) → length names ≤ i → i ≤ length names → NoneBefore names name i → None ≡ place_of names name
 not_found names name i l m h = sym (at_end (length names) _ (position_or_len_is (bytes_eq name) names i [] m h (λ g. absurd (omega arith)) ∙ omega arith))
 
--- the bytes of the text at a place
+-- the bytes of the text at an index
 pub bytes_at : (ks : List (String Global)) (i : ℕ) (s : String Global) (v : List ℕ) → i < length ks → s ≡ get_or ks i s → v ≡ string_bytes s → v ≡ get_or (map string_bytes ks) i []
 bytes_at [] i s v l e f = absurd (omega arith)
 bytes_at (k ∷ ks) zero s v l e f = f ∙ ap string_bytes e

@@ -1,4 +1,4 @@
--- What is wrong first in a text, by the kind of the fault and the place of its byte: the names, and
+-- What is wrong first in a text, by the kind of the fault and the offset of its byte: the names, and
 -- the verdict of the grammar.
 use Rattle.std.specs.Prelude.{ℕ, leb, if◌then◌else◌, List, [], ◌∷◌, ◌++◌, length, drop, Some, None}
 use Rattle.std.specs.declared.option.Option.{Option}
@@ -34,7 +34,8 @@ missing None at = Some (fault f.UnknownName at)
 missing (Some place) at = None
 
 abbrev pub unknown : List ℕ → List (List ℕ) → Token → Option Fault
-unknown text names t = if is k.Name t.kind then missing (place_of names (spelled text t)) t.at else None
+unknown text names t =
+    if is k.Name t.kind then missing (place_of names (spelled text t)) t.at else None
 
 -- of the names among these tokens: the first that isn't declared
 abbrev pub used_fault : List ℕ → List (List ℕ) → List Token → Option Fault
@@ -43,13 +44,13 @@ used_fault text names (t ∷ ts) = option_or (unknown text names t) (used_fault 
 
 -- ---- the grammar
 
--- the place of the token of this number
-abbrev pub place_at : List Token → ℕ → ℕ
-place_at ts n = head_at (drop n ts)
+-- the offset of the token of this index
+abbrev pub offset_at : List Token → ℕ → ℕ
+offset_at ts n = head_at (drop n ts)
 
--- the fault of a verdict, where the text ends at this place; none where the tokens are a text
+-- the fault of a verdict, where the text ends at this offset; none where the tokens are a text
 abbrev pub verdict_fault : List Token → ℕ → Verdict Token → Option Fault
 verdict_fault ts end (whole a) = None
-verdict_fault ts end (unexpected n) = Some (fault f.Unexpected (place_at ts n))
+verdict_fault ts end (unexpected n) = Some (fault f.Unexpected (offset_at ts n))
 verdict_fault ts end unclosed = Some (fault f.Unclosed end)
-verdict_fault ts end (too_deep n) = Some (fault f.TooDeep (place_at ts n))
+verdict_fault ts end (too_deep n) = Some (fault f.TooDeep (offset_at ts n))

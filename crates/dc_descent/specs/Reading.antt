@@ -12,7 +12,7 @@ use Rattle.dc_descent.specs.declared.fault.Kind.TheVariants as f
 use Rattle.dc_descent.specs.Faults.{verdict_fault}
 
 -- what the tokens say as a text of the name x; or want of memory, or the fault of their verdict,
--- where the text ends at a place
+-- where the text ends at an offset
 abbrev pub IsRead : {X : Type 0} → Name → (Tree Token → X → Type 0) → List Token → ℕ
     → Result X Fault → Type 0
 IsRead x Is ts end (Ok s) = (a : Tree Token) × Finds language IsDeep x ts (whole a) × Is a s

@@ -43,7 +43,8 @@ pub record Parts : Type 0 where
 
 -- "proc" NAME "(" [ names ] ")" "{" [ "var" names ";" ] { stmt } "}"
 abbrev pub parts_of : Tree Token → Parts
-parts_of (pair proc (pair (leaf t) (pair opens (pair ps (pair closes (pair begins (pair ls (pair ss ends)))))))) = record { name = t; params = params_in ps; locals = locals_in ls; body = ss }
+parts_of (pair proc (pair (leaf t) (pair opens (pair ps (pair closes (pair begins (pair ls (pair ss ends)))))))) =
+    record { name = t; params = params_in ps; locals = locals_in ls; body = ss }
 parts_of _ = record {
   name = record {
     kind = k.Name;
@@ -68,7 +69,7 @@ names_of text p = map (spelled text) (declared p)
 abbrev pub body_of : List ℕ → Parts → List Stmt
 body_of text p = stmts_of (place_in text (names_of text p)) p.body
 
--- the first fault of the names, by place: they are declared before they are used
+-- the first fault of the names, by offset: they are declared before they are used
 abbrev pub names_fault : List ℕ → Parts → Option Fault
 names_fault text p =
     option_or (declared_fault text [] (declared p))

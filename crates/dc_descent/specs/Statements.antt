@@ -52,7 +52,8 @@ abbrev mutual
   stmt_of p (right (right (right (left (pair (leaf x) (pair equals (pair a semi))))))) =
       assigned_of p (p x) a
   -- "if" "(" choice ")" block [ "else" block ]
-  stmt_of p (right (right (right (right (left (pair if (pair opens (pair c (pair closes (pair a b)))))))))) = branch_by (choice_of p c) (block_of p a) (else_of p b)
+  stmt_of p (right (right (right (right (left (pair if (pair opens (pair c (pair closes (pair a b)))))))))) =
+      branch_by (choice_of p c) (block_of p a) (else_of p b)
   -- "while" "(" choice ")" block
   stmt_of p (right (right (right (right (right (pair while (pair opens (pair c (pair closes a))))))))) =
       loop_by (choice_of p c) (block_of p a)
@@ -79,20 +80,22 @@ abbrev pub head_at : List Token → ℕ
 head_at [] = 0
 head_at (t ∷ ts) = t.at
 
--- the place of the first token
+-- the offset of the first token
 abbrev pub first_at : Tree Token → ℕ
 first_at a = head_at (leaves a)
 
 abbrev mutual
-  -- the places at which the statements of a list begin, in preorder
+  -- the offsets at which the statements of a list begin, in preorder
   pub starts_of : Tree Token → List ℕ
   starts_of (pair a more) = (first_at a ∷ inner_starts a) ++ starts_of more
   starts_of _ = []
 
   -- of the statements inside a statement
   pub inner_starts : Tree Token → List ℕ
-  inner_starts (right (right (right (right (left (pair if (pair opens (pair c (pair closes (pair a b)))))))))) = block_starts a ++ else_starts b
-  inner_starts (right (right (right (right (right (pair while (pair opens (pair c (pair closes a))))))))) = block_starts a
+  inner_starts (right (right (right (right (left (pair if (pair opens (pair c (pair closes (pair a b)))))))))) =
+      block_starts a ++ else_starts b
+  inner_starts (right (right (right (right (right (pair while (pair opens (pair c (pair closes a))))))))) =
+      block_starts a
   inner_starts _ = []
 
   pub block_starts : Tree Token → List ℕ
@@ -118,7 +121,7 @@ IsAssigned p k a x = assigned_of p k a ≡ x
 abbrev pub IsChoice : (Token → ℕ) → Tree Token → Option Cond → Type 0
 IsChoice p a x = choice_of p a ≡ x
 
--- statements, and the places at which they begin, which are put at the end of the places so far
+-- statements, and the offsets at which they begin, which are put at the end of those so far
 pub record IsWith {X : Type 0} (tree : Tree Token → X) (starts : Tree Token → List ℕ)
     (old new : List ℕ) (a : Tree Token) (x : X) : Type 0 where
   pub said : tree a ≡ x

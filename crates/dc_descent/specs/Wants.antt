@@ -1,4 +1,4 @@
--- Want of memory, which has no place.
+-- Want of memory, which has no offset.
 use Rattle.dc_descent.specs.declared.fault.Kind.TheVariants as k
 use Rattle.dc_descent.specs.declared.fault.Fault.{Fault}
 

@@ -115,7 +115,7 @@ impl<'a> Cursor<'a> {
     }
 
     /// The byte at which the next token begins; 0 where there is none.
-    pub fn place(&self) -> usize
+    pub fn offset(&self) -> usize
         ensures { result ≡ head_at self.now.rest.now }
     {
         match self.rest.first() {

@@ -12,7 +12,8 @@ pub enum Kind {
     Unexpected,
     /// The text ends too soon.
     Unclosed,
-    /// More than 64 brackets are open, or more than 64 operators stand in one expression or condition.
+    /// More than 64 brackets are open, or more than 64 operators stand in one expression or
+    /// condition.
     TooDeep,
     /// More than ten names are declared.
     TooManyNames,
@@ -33,7 +34,7 @@ pub struct Fault {
 }
 
 impl Fault {
-    /// Want of memory, which has no place.
+    /// Want of memory, which has no offset.
     pub fn want() -> Fault
         ensures { result ≡ want }
     {

@@ -28,7 +28,8 @@ fn keep(found: &mut Vec<Token>, token: Token) -> Result<(), AllocError>
 
 /// Names with commas between them.
 fn names(cursor: &mut Cursor<'_>, found: &mut Vec<Token>) -> Result<(), Stop>
-    ensures { Reads (ref Name.names) (AddsNames names_in found.old.items found.new.items) cursor.old.rest.now result cursor.new.rest.now }
+    ensures { Reads (ref Name.names) (AddsNames names_in found.old.items found.new.items)
+        cursor.old.rest.now result cursor.new.rest.now }
 {
     let first = cursor.expect(TokenKind::Name)?;
     keep(found, first)?;
@@ -42,7 +43,8 @@ fn names(cursor: &mut Cursor<'_>, found: &mut Vec<Token>) -> Result<(), Stop>
 
 /// The parameters.
 pub fn params(cursor: &mut Cursor<'_>, found: &mut Vec<Token>) -> Result<(), Stop>
-    ensures { Reads (opt (ref Name.names)) (AddsNames params_in found.old.items found.new.items) cursor.old.rest.now result cursor.new.rest.now }
+    ensures { Reads (opt (ref Name.names)) (AddsNames params_in found.old.items found.new.items)
+        cursor.old.rest.now result cursor.new.rest.now }
 {
     if cursor.sees(TokenKind::Name) {
         names(cursor, found)?;
@@ -54,7 +56,9 @@ pub fn params(cursor: &mut Cursor<'_>, found: &mut Vec<Token>) -> Result<(), Sto
 
 /// The locals.
 pub fn locals(cursor: &mut Cursor<'_>, found: &mut Vec<Token>) -> Result<(), Stop>
-    ensures { Reads (opt (tok k.Var ▸ ref Name.names ▸ tok k.Semi)) (AddsNames locals_in found.old.items found.new.items) cursor.old.rest.now result cursor.new.rest.now }
+    ensures { Reads (opt (tok k.Var ▸ ref Name.names ▸ tok k.Semi))
+        (AddsNames locals_in found.old.items found.new.items)
+        cursor.old.rest.now result cursor.new.rest.now }
 {
     if cursor.sees(TokenKind::Var) {
         cursor.expect(TokenKind::Var)?;
@@ -77,7 +81,8 @@ pub struct Declared {
 pub fn declare(alloc: Global, text: &[u8], tokens: &[Token]) -> Result<Declared, AllocError>
     requires { IsAscii text.now }
     ensures fault { IfOk result (λ d. d.fault ≡ declared_fault text.now [] tokens.now) }
-    ensures names { IfOk result (λ d. d.fault ≡ None → d.names ≡ map (spelled text.now) tokens.now) }
+    ensures names { IfOk result
+        (λ d. d.fault ≡ None → d.names ≡ map (spelled text.now) tokens.now) }
 {
     let mut names = Names::new(alloc);
     for token in tokens {
@@ -125,7 +130,8 @@ fn unknown(scope: &Scope<'_>, token: Token) -> Option<Fault>
 
 /// The first name among tokens that the text may not use.
 pub fn first_unknown(scope: &Scope<'_>, tokens: &[Token]) -> Option<Fault>
-    ensures { result ≡ used_fault scope.now.text.now (map string_bytes scope.now.names.now) tokens.now }
+    ensures { result
+        ≡ used_fault scope.now.text.now (map string_bytes scope.now.names.now) tokens.now }
 {
     for token in tokens {
         if let Some(fault) = unknown(scope, *token) {

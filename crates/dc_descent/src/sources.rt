@@ -16,7 +16,7 @@ use dc_tokens::{Token, TokenKind};
 use sqlite_items::Items;
 use std::alloc::Global;
 
-/// The statements of a source with its names, the first fault of these, and the places at which the
+/// The statements of a source with its names, the first fault of these, and the offsets at which the
 /// statements begin, in preorder. Where the names have a fault, the statements say nothing.
 #[derive(Drop)]
 pub struct Body {
@@ -34,7 +34,7 @@ pub struct Source {
     pub body: Body,
 }
 
-/// The tokens that were read between two places.
+/// The tokens that were read between two moments.
 fn between<'a>(before: &'a [Token], after: &[Token]) -> &'a [Token]
     requires { length after.now ≤ length before.now }
     ensures { (used : List AnyToken) → before.now ≡ used ++ after.now → result.now ≡ used }

@@ -19,7 +19,8 @@ use sqlite_items::Items;
 use std::alloc::{AllocError, Global};
 
 fn skip(cursor: &mut Cursor<'_>) -> Result<Stmt, Stop>
-    ensures { Reads (tok k.Skip ▸ tok k.Semi) IsSkip cursor.old.rest.now result cursor.new.rest.now }
+    ensures { Reads (tok k.Skip ▸ tok k.Semi) IsSkip
+        cursor.old.rest.now result cursor.new.rest.now }
 {
     cursor.expect(TokenKind::Skip)?;
     cursor.expect(TokenKind::Semi)?;
@@ -59,11 +60,11 @@ fn assign(alloc: Global, scope: &Scope<'_>, cursor: &mut Cursor<'_>) -> Result<S
     Ok(statement)
 }
 
-/// Keeps the place at which a statement begins.
-fn begin(starts: &mut Vec<usize>, place: usize) -> Result<(), AllocError>
-    ensures { OnOk result (starts.new.items ≡ starts.old.items ++ place ∷ []) }
+/// Keeps the offset at which a statement begins.
+fn begin(starts: &mut Vec<usize>, offset: usize) -> Result<(), AllocError>
+    ensures { OnOk result (starts.new.items ≡ starts.old.items ++ offset ∷ []) }
 {
-    starts.push(place)?;
+    starts.push(offset)?;
     Ok(())
 }
 
@@ -92,7 +93,11 @@ fn branch(
     cursor: &mut Cursor<'_>,
     starts: &mut Vec<usize>,
 ) -> Result<Stmt, Stop>
-    ensures { Reads (tok k.If ▸ tok k.LParen ▸ ref Name.choice ▸ tok k.RParen ▸ ref Name.block ▸ opt (tok k.Else ▸ ref Name.block)) (IsWith (branch_of (places scope.now)) branch_starts starts.old.items starts.new.items) cursor.old.rest.now result cursor.new.rest.now }
+    ensures { Reads
+        (tok k.If ▸ tok k.LParen ▸ ref Name.choice ▸ tok k.RParen ▸ ref Name.block
+        ▸ opt (tok k.Else ▸ ref Name.block))
+        (IsWith (branch_of (places scope.now)) branch_starts starts.old.items starts.new.items)
+        cursor.old.rest.now result cursor.new.rest.now }
 {
     cursor.expect(TokenKind::If)?;
     cursor.expect(TokenKind::LParen)?;
@@ -110,7 +115,9 @@ fn otherwise(
     cursor: &mut Cursor<'_>,
     starts: &mut Vec<usize>,
 ) -> Result<Items<Stmt>, Stop>
-    ensures { Reads (opt (tok k.Else ▸ ref Name.block)) (IsWith (else_of (places scope.now)) else_starts starts.old.items starts.new.items) cursor.old.rest.now result cursor.new.rest.now }
+    ensures { Reads (opt (tok k.Else ▸ ref Name.block))
+        (IsWith (else_of (places scope.now)) else_starts starts.old.items starts.new.items)
+        cursor.old.rest.now result cursor.new.rest.now }
 {
     if cursor.sees(TokenKind::Else) {
         cursor.expect(TokenKind::Else)?;
@@ -128,7 +135,9 @@ fn repeat(
     cursor: &mut Cursor<'_>,
     starts: &mut Vec<usize>,
 ) -> Result<Stmt, Stop>
-    ensures { Reads (tok k.While ▸ tok k.LParen ▸ ref Name.choice ▸ tok k.RParen ▸ ref Name.block) (IsWith (loop_of (places scope.now)) loop_starts starts.old.items starts.new.items) cursor.old.rest.now result cursor.new.rest.now }
+    ensures { Reads (tok k.While ▸ tok k.LParen ▸ ref Name.choice ▸ tok k.RParen ▸ ref Name.block)
+        (IsWith (loop_of (places scope.now)) loop_starts starts.old.items starts.new.items)
+        cursor.old.rest.now result cursor.new.rest.now }
 {
     cursor.expect(TokenKind::While)?;
     cursor.expect(TokenKind::LParen)?;
@@ -145,7 +154,9 @@ fn block(
     cursor: &mut Cursor<'_>,
     starts: &mut Vec<usize>,
 ) -> Result<Items<Stmt>, Stop>
-    ensures { Reads (ref Name.block) (IsWith (block_of (places scope.now)) block_starts starts.old.items starts.new.items) cursor.old.rest.now result cursor.new.rest.now }
+    ensures { Reads (ref Name.block)
+        (IsWith (block_of (places scope.now)) block_starts starts.old.items starts.new.items)
+        cursor.old.rest.now result cursor.new.rest.now }
 {
     cursor.expect(TokenKind::LBrace)?;
     let body = stmts(alloc, scope, cursor, starts)?;
@@ -160,9 +171,11 @@ fn stmt(
     cursor: &mut Cursor<'_>,
     starts: &mut Vec<usize>,
 ) -> Result<Stmt, Stop>
-    ensures { Reads (ref Name.stmt) (IsWith (stmt_of (places scope.now)) stmt_starts starts.old.items starts.new.items) cursor.old.rest.now result cursor.new.rest.now }
+    ensures { Reads (ref Name.stmt)
+        (IsWith (stmt_of (places scope.now)) stmt_starts starts.old.items starts.new.items)
+        cursor.old.rest.now result cursor.new.rest.now }
 {
-    begin(starts, cursor.place())?;
+    begin(starts, cursor.offset())?;
     if cursor.sees(TokenKind::Skip) {
         skip(cursor)
     } else if cursor.sees(TokenKind::Tick) {
@@ -178,7 +191,7 @@ fn stmt(
     }
 }
 
-/// Statements, as many as there are, with the places at which they and those inside them begin.
+/// Statements, as many as there are, with the offsets at which they and those inside them begin.
 #[cycle(statements)]
 pub fn stmts(
     alloc: Global,
@@ -186,7 +199,9 @@ pub fn stmts(
     cursor: &mut Cursor<'_>,
     starts: &mut Vec<usize>,
 ) -> Result<Items<Stmt>, Stop>
-    ensures { Reads (many (ref Name.stmt)) (IsWith (stmts_of (places scope.now)) starts_of starts.old.items starts.new.items) cursor.old.rest.now result cursor.new.rest.now }
+    ensures { Reads (many (ref Name.stmt))
+        (IsWith (stmts_of (places scope.now)) starts_of starts.old.items starts.new.items)
+        cursor.old.rest.now result cursor.new.rest.now }
 {
     let mut found = Items::new(alloc);
     'stmts: while cursor.sees_stmt() {

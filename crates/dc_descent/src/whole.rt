@@ -26,7 +26,7 @@ fn shallow_front(tokens: &[Token]) -> (Option<usize>, &[Token])
 {
     let deep = first_deep(tokens);
     match deep {
-        Some(place) => (deep, &tokens[..place + 1]),
+        Some(index) => (deep, &tokens[..index + 1]),
         None => (deep, tokens),
     }
 }
@@ -46,9 +46,9 @@ fn fault_at(tokens: &[Token], deep: Option<usize>, part: &[Token], left: usize) 
         });
     }
     match deep {
-        Some(place) => Some(Fault {
+        Some(index) => Some(Fault {
             kind: Kind::TooDeep,
-            at: tokens[place].at,
+            at: tokens[index].at,
         }),
         None => None,
     }

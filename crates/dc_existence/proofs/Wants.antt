@@ -9,7 +9,7 @@ use Rattle.dc_tokens.specs.declared.token.LexFault.{LexFault}
 use Rattle.dc_tokens.specs.declared.token.LexFault.TheVariants as l
 use Rattle.dc_tokens.specs.Pieces.{Wrong, not_ascii, not_ascii_in_comment, bad_character, too_wide}
 use Rattle.dc_tokens.specs.Texts.{Fails, here, after}
-use Rattle.dc_tokens.specs.Places.{line_at, column_at}
+use Rattle.dc_tokens.specs.Lines.{line_at, column_at}
 use Rattle.dc_grammar.specs.Kinds.{is}
 use Rattle.dc_grammar.specs.Grammar.{Tree}
 use Rattle.dc_grammar.specs.Language.{Name, source, cond as condition}

@@ -1,6 +1,7 @@
 -- From the reader's answer to what stands first in a text.
 use Rattle.std.proofs.Common.{◌≡◌, ℕ, zero, suc, ◌+◌, ◌<◌, ◌≤◌, ◌⊎◌, inl, inr, Bool, true, false, nat_lt, List, [], ◌∷◌, ◌++◌, length, take, drop, refl, ap, sym, ◌∙◌, subst, append_assoc, append-nil, take-append-drop, arith, length-append, length-take}
 use Rattle.std.proofs.lemmas.Bool.Decides.{nat_tests}
+use Rattle.std.proofs.Math.Seq.{take-append_seam}
 use Rattle.std.proofs.lemmas.List.{take-take, take_all}
 use Rattle.dc_grammar.specs.Grammar.{Grammar, ref, Tree, Derives, Viable}
 use Rattle.dc_grammar.specs.Reading.{Reader, Out, ok, fail, Parses}
@@ -115,21 +116,17 @@ pub data Part {T : Type 0} (Deep : List T → Type 0) (ts : List T) : List T →
   all : Shallow Deep ts (length ts) → Part Deep ts ts
   deep : {n : ℕ} → n < length ts → Deep (take (suc n) ts) → Shallow Deep ts n → Part Deep ts (take (suc n) ts)
 
-front : {T : Type 0} (u : List T) (t : T) (w : List T) → take (length u) (u ++ t ∷ w) ≡ u
-front [] t w = refl
-front (x ∷ u) t w = ap (λ v. x ∷ v) (front u t w)
-
 front_more : {T : Type 0} (u : List T) (t : T) (w : List T) → take (suc (length u)) (u ++ t ∷ w) ≡ u ++ t ∷ []
 front_more [] t w = refl
 front_more (x ∷ u) t w = ap (λ v. x ∷ v) (front_more u t w)
 
 -- in the first m tokens, which are u, then t, then w, the token t is unexpected
-found_at : {K N T : Type 0} (G : Grammar K N T) (Deep : List T → Type 0) (x : N) (ts : List T) (m s : ℕ) (u : List T) (t : T) (w : List T)
+pub found_at : {K N T : Type 0} (G : Grammar K N T) (Deep : List T → Type 0) (x : N) (ts : List T) (m s : ℕ) (u : List T) (t : T) (w : List T)
     → take m ts ≡ u ++ t ∷ w → m ≤ length ts → length u ≤ s → Shallow Deep ts s → Wrong_at G x u t → Finds G Deep x ts (unexpected (length u))
 found_at G Deep x ts m s u t w q g k shallow wrong =
     let l : length (take m ts) ≡ length u + suc (length w) = ap length q ∙ length-append u (t ∷ w) in
     let c : length u < m = omega (arith, l, length-take m ts) in
-    let e1 : take (length u) ts ≡ u = sym (take-take (length u) m ts (omega arith)) ∙ (ap (take (length u)) q ∙ front u t w) in
+    let e1 : take (length u) ts ≡ u = sym (take-take (length u) m ts (omega arith)) ∙ (ap (take (length u)) q ∙ take-append_seam u (t ∷ w)) in
     let e2 : take (suc (length u)) ts ≡ u ++ t ∷ [] = sym (take-take (suc (length u)) m ts c) ∙ (ap (take (suc (length u))) q ∙ front_more u t w) in
     (omega arith, subst (Viable G x) (sym e1) wrong.before, (λ v. wrong.after (subst (Viable G x) e2 v)), λ j h d. shallow j (omega arith) d)
 

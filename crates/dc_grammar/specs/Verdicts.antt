@@ -20,7 +20,7 @@ Shallow Deep ts n = (j : ℕ) → j ≤ n → Deep (take j ts) → ⊥
 abbrev pub IsFirstDeep : {T : Type 0} → (List T → Type 0) → List T → ℕ → Type 0
 IsFirstDeep Deep ts n = (n < length ts) × Deep (take (suc n) ts) × Shallow Deep ts n
 
--- what is first by place, in tokens that are to be a text of the name x; a token that no text goes
+-- what is first by index, in tokens that are to be a text of the name x; a token that no text goes
 -- on with is unexpected, also where it nests too deep
 abbrev pub Finds : {K N T : Type 0} → Grammar K N T → (List T → Type 0) → N → List T → Verdict T
     → Type 0

@@ -101,11 +101,11 @@ pub fn first_deep(tokens: &[Token]) -> Option<usize>
 {
     let mut brackets = 0;
     let mut operators = 0;
-    for (place, token) in tokens.iter().enumerate() {
+    for (index, token) in tokens.iter().enumerate() {
         brackets = brackets_with(brackets, *token);
         operators = operators_with(operators, *token);
         if brackets > MOST || operators > MOST {
-            return Some(place);
+            return Some(index);
         }
     }
     None

@@ -1,4 +1,4 @@
--- Each statement has the place at which it begins: a derivation says as many places as statements.
+-- Each statement has the offset at which it begins: a derivation says as many offsets as statements.
 use Rattle.std.proofs.Common.{◌≡◌, ℕ, suc, ◌+◌, List, [], ◌∷◌, ◌++◌, length, refl, arith, length-append, Some, None}
 use Rattle.std.specs.declared.option.Option.{Option}
 use Rattle.dc_tokens.specs.declared.token.TokenKind.TheVariants as k

@@ -13,6 +13,5 @@ pub mod Judged
 pub mod Refused
 pub mod Cases
 pub mod Assembled
-pub mod Uses
 pub mod Begins
 pub mod Said

@@ -1,6 +1,6 @@
 -- From a fault at a byte to a refusal with its line and column.
 use Rattle.std.proofs.Common.{◌≡◌, ◌⊎◌, inl, inr, ℕ, ◌<◌, ◌≤◌, List, refl, sym, ◌∙◌, subst}
-use Rattle.dc_tokens.specs.Places.{line_at, column_at}
+use Rattle.dc_tokens.specs.Lines.{line_at, column_at}
 use Rattle.dc_parse.specs.declared.fault.Kind.{Kind}
 use Rattle.dc_parse.specs.declared.fault.Kind.TheVariants as k
 use Rattle.dc_parse.specs.declared.fault.Fault.{Fault}

@@ -1,6 +1,7 @@
 -- The tokens of a text that is not too deep: their numbers are small, and few operators stand in a row.
 use Rattle.std.proofs.Common.{◌≡◌, ◌⊎◌, inr, ℕ, ◌+◌, ◌<◌, ◌≤◌, Bool, true, false, ◌||◌, nat_lt, List, [], ◌∷◌, ◌++◌, length, take, refl, sym, ap, ◌∙◌, subst, append_assoc, arith, length-append, if◌then◌else◌}
 use Rattle.std.proofs.lemmas.Bool.Decides.{nat_tests}
+use Rattle.std.proofs.Math.Seq.{take-append_seam}
 use Rattle.std.specs.List.{fold, AllByRecursion}
 use Rattle.std.proofs.lemmas.List.Sums.{fold-append}
 use Rattle.dc_tokens.specs.declared.token.Token.{Token}
@@ -30,10 +31,6 @@ counts : (m : ℕ) (y : List Token) → AllByRecursion Inside y → fold operato
 counts m [] h = omega arith
 counts m (t ∷ y) h = counts (operators_with m t) y h.1 ∙ omega (arith, counted (is_operator t.kind) (has is depth.operands t.kind) m h.0)
 
-front_all : (u v : List Token) → take (length u) (u ++ v) ≡ u
-front_all [] v = refl
-front_all (t ∷ u) v = ap (λ w. t ∷ w) (front_all u v)
-
 pub few_of : (ts : List Token) → Shallow IsDeep ts (length ts) → Few ts
 unfolding operators_so_far
 few_of ts s x y z e i = go (nat_lt 64 (ops y)) refl
@@ -45,7 +42,7 @@ few_of ts s x y z e i = go (nat_lt 64 (ops y)) refl
     so_far = fold-append operators_with 0 x y ∙ counts (operators_so_far x) y i
 
     shallow : IsDeep (x ++ y) → ⊥
-    shallow d = s (length (x ++ y)) (omega (arith, ap length whole, length-append (x ++ y) z)) (subst IsDeep (sym (ap (take (length (x ++ y))) whole ∙ front_all (x ++ y) z)) d)
+    shallow d = s (length (x ++ y)) (omega (arith, ap length whole, length-append (x ++ y) z)) (subst IsDeep (sym (ap (take (length (x ++ y))) whole ∙ take-append_seam (x ++ y) z)) d)
 
     go : (b : Bool) → nat_lt 64 (ops y) ≡ b → ops y ≤ 64
     go true h = absurd (shallow (inr (omega (arith, more h, so_far))))

@@ -1,6 +1,6 @@
 -- What the parsers answer.
 use Rattle.std.specs.Prelude.{◌≡◌, ℕ, List}
-use Rattle.dc_tokens.specs.Places.{line_at, column_at}
+use Rattle.dc_tokens.specs.Lines.{line_at, column_at}
 use Rattle.dc_grammar.specs.Language.{source, cond}
 use Rattle.dc_syntax.specs.declared.tree.Proc.{Proc}
 use Rattle.dc_affine.specs.declared.atom.Atom.{Atom}
@@ -18,7 +18,7 @@ SourceOutcome text = IsOutcome source (judge_source text) text
 abbrev pub ConditionOutcome : List (List ℕ) → List ℕ → Outcome (List (List Atom)) → Type 0
 ConditionOutcome names text = IsOutcome cond (judge_condition names text) text
 
--- a refusal with its line and column: want of memory stands at 0:0, each other at the place of its byte
+-- a refusal with its line and column: want of memory stands at 0:0, each other at the offset of its byte
 abbrev pub IsRefusal : {A : Type 0} → (Outcome A → Type 0) → List ℕ → ℕ → ℕ → Kind → Type 0
 IsRefusal Of text line col k.NoMemory = (line ≡ 0) × (col ≡ 0)
 IsRefusal Of text line col kind =

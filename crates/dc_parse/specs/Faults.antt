@@ -1,4 +1,4 @@
--- What is wrong first in a text, over all phases, by the kind of the fault and the place of its
+-- What is wrong first in a text, over all phases, by the kind of the fault and the offset of its
 -- byte. The faults of the tokens and of the names are those that the descent tells.
 use Rattle.std.specs.Prelude.{ℕ, List}
 use Rattle.std.specs.declared.option.Option.{Option}
@@ -18,7 +18,7 @@ use Rattle.dc_parse.specs.declared.fault.Fault.{Fault}
 abbrev pub fault : Kind → ℕ → Fault
 fault j n = record { kind = j; at = n }
 
--- want of memory, which has no place
+-- want of memory, which has no offset
 abbrev pub want : Fault
 want = fault k.NoMemory 0
 

@@ -57,7 +57,7 @@ abbrev pub tail_of : List ℕ → List ℕ
 tail_of [] = []
 tail_of (p ∷ ps) = ps
 
--- the first fault, at the place of its statement, where the statements begin at these places
+-- the first fault, at the offset of its statement, where the statements begin at these offsets
 abbrev pub first_form : List ℕ → List (Option FormFault) → Option Fault
 first_form ps [] = None
 first_form ps (None ∷ fs) = first_form (tail_of ps) fs

@@ -41,7 +41,7 @@ judge_source text a = judge_parts text (parts_of a)
 
 -- ---- a condition over names
 
--- a fault at a place
+-- a fault at an offset
 abbrev pub form_at : ℕ → Option FormFault → Option Fault
 form_at at (Some f) = Some (fault (form_kind f) at)
 form_at at None = None

@@ -65,9 +65,9 @@ SaysItsCases text =
     (names : List (List ℕ)) (cases : List (List Atom)) → ConditionOutcome names text (says cases)
     → HoldWhereTrue names text cases
 
--- of a source, each statement has the place at which it begins: there are as many of the one as of
+-- of a source, each statement has the offset at which it begins: there are as many of the one as of
 -- the other
-abbrev pub HavePlaces : List ℕ → Type 0
-HavePlaces text =
+abbrev pub HaveOffsets : List ℕ → Type 0
+HaveOffsets text =
     (ts : List Token) (a : Tree Token) (n : ℕ) → Derives language (ref source) ts a
     → length (starts_of (parts_of a).body) ≡ length (all_faults n (body_of text (parts_of a)))

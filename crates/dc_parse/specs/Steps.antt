@@ -12,12 +12,12 @@ use Rattle.dc_grammar.specs.Verdicts.{Verdict, whole, Finds}
 use Rattle.dc_parse.specs.Faults.{verdict_fault}
 use Rattle.dc_parse.specs.Forms.{first_form, tail_of}
 
--- the places after those of these statements
+-- the offsets after those of these statements
 abbrev pub after_all : {A : Type 0} → List A → List ℕ → List ℕ
 after_all [] ps = ps
 after_all (f ∷ fs) ps = after_all fs (tail_of ps)
 
--- of statements with these faults, which begin at the places old: none has one and the places new
+-- of statements with these faults, which begin at the offsets old: none has one and the offsets new
 -- are left, or the first is told
 abbrev pub JudgesAll : List (Option FormFault) → List ℕ → Result (Unit {0}) Fault → List ℕ → Type 0
 JudgesAll fs old (Ok u) new = (first_form old fs ≡ None) × (new ≡ after_all fs old)
@@ -28,7 +28,7 @@ abbrev pub Judges : Option FormFault → List ℕ → Result (Unit {0}) Fault �
 Judges f = JudgesAll (f ∷ [])
 
 -- what the tokens say as a text of the name x; or want of memory, or the fault of their verdict,
--- where the text ends at a place
+-- where the text ends at an offset
 abbrev pub IsFound : {X : Type 0} → Name → (Tree Token → X → Type 0) → List Token → ℕ
     → Result X Fault → Type 0
 IsFound x Is ts end (Ok s) = (a : Tree Token) × Finds language IsDeep x ts (whole a) × Is a s

@@ -48,7 +48,7 @@ pub struct Fault {
 }
 
 impl Fault {
-    /// Want of memory, which has no place.
+    /// Want of memory, which has no offset.
     pub fn want() -> Fault
         ensures { result ≡ want }
     {

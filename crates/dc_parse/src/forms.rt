@@ -26,16 +26,16 @@ pub fn form_kind(fault: FormFault) -> Kind
     }
 }
 
-/// The places at which the statements that are left begin.
+/// The offsets at which the statements that are left begin.
 #[derive(Drop)]
 pub struct Starts<'a> {
     pub rest: &'a [usize],
 }
 
 impl<'a> Starts<'a> {
-    /// The place of the next statement.
+    /// The offset of the next statement.
     fn next(&mut self) -> usize
-        ensures place { result ≡ head_of self.old.rest.now }
+        ensures offset { result ≡ head_of self.old.rest.now }
         ensures rest { self.new.rest.now ≡ tail_of self.old.rest.now }
     {
         if self.rest.is_empty() {
@@ -95,7 +95,7 @@ fn judge_own(alloc: Global, stmt: &Stmt, places: usize) -> Result<(), FormFault>
     }
 }
 
-/// Judges a statement alone, which begins at the next place.
+/// Judges a statement alone, which begins at the next offset.
 fn judge_next(
     alloc: Global,
     stmt: &Stmt,
@@ -139,7 +139,7 @@ fn judge(alloc: Global, stmt: &Stmt, places: usize, starts: &mut Starts<'_>) -> 
     }
 }
 
-/// Judges statements and those inside them, in preorder: the first with a fault is told, at its place.
+/// Judges statements and those inside them, in preorder: the first with a fault is told, at its offset.
 #[cycle(forms)]
 pub fn judge_all(
     alloc: Global,

@@ -1,5 +1,5 @@
 //! Laws of what texts say. The functions have no code: what they ensure is the law.
-ghost use Rattle.dc_parse.specs.Laws.{OneOutcomeEach, SaysByTree, SaysPrograms, SaysConditions, SaysItsCases, HavePlaces};
+ghost use Rattle.dc_parse.specs.Laws.{OneOutcomeEach, SaysByTree, SaysPrograms, SaysConditions, SaysItsCases, HaveOffsets};
 
 /// A text has exactly one outcome as a source, and exactly one as a condition over any names: what
 /// it says, or what is wrong first.
@@ -32,9 +32,9 @@ pub fn cases_hold_where_the_condition_is_true(text: &[u8])
     let _ = text;
 }
 
-/// Each statement of a source has the place at which it begins.
-pub fn statements_have_places(text: &[u8])
-    ensures { HavePlaces text.now }
+/// Each statement of a source has the offset at which it begins.
+pub fn statements_have_offsets(text: &[u8])
+    ensures { HaveOffsets text.now }
 {
     let _ = text;
 }

@@ -2,7 +2,7 @@
 ghost use Rattle.std.specs.Prelude.{◌≡◌, ◌≤◌, ◌⊎◌, length, map, take, IfOk, IfErr, OnOk, IsAscii};
 ghost use Rattle.std.specs.String.{string_bytes};
 ghost use Rattle.dc_tokens.specs.declared.token.LexFault.{LexFault as AnyLexFault};
-ghost use Rattle.dc_tokens.specs.Places.{line_at, column_at};
+ghost use Rattle.dc_tokens.specs.Lines.{line_at, column_at};
 ghost use Rattle.dc_tokens.specs.Texts.{Tokens, Fails};
 ghost use Rattle.dc_syntax.specs.Params.{params_of};
 ghost use Rattle.dc_affine.specs.Atoms.{cases_of};
@@ -94,8 +94,8 @@ fn condition_of(alloc: Global, scope: &Scope<'_>, tokens: &[Token]) -> Result<Co
     }
 }
 
-/// The place of the first token; 0 where there is none.
-fn first_place(tokens: &[Token]) -> usize
+/// The offset of the first token; 0 where there is none.
+fn first_offset(tokens: &[Token]) -> usize
     ensures { result ≡ head_at tokens.now }
 {
     match tokens.first() {
@@ -162,7 +162,7 @@ fn read_when(alloc: Global, text: &[u8], p: &Proc) -> Result<Vec<Vec<Atom>>, Fau
         Ok(cases) => Ok(cases),
         Err(fault) => Err(Fault {
             kind: form_kind(fault),
-            at: first_place(tokens.as_slice()),
+            at: first_offset(tokens.as_slice()),
         }),
     }
 }
@@ -182,7 +182,7 @@ fn locate(text: &[u8], fault: Fault) -> ParseFault
     requires { length text.now ≤ 65536 }
     ensures kind { result.kind ≡ fault.kind }
     ensures want { fault.kind ≡ Kind.NoMemory → (result.line ≡ 0) × (result.col ≡ 0) }
-    ensures place { (fault.kind ≡ Kind.NoMemory → ⊥) → (result.line ≡ line_at text.now fault.at)
+    ensures offset { (fault.kind ≡ Kind.NoMemory → ⊥) → (result.line ≡ line_at text.now fault.at)
         × (result.col ≡ column_at text.now fault.at) }
 {
     if matches!(fault.kind, Kind::NoMemory) {
@@ -203,10 +203,10 @@ fn locate(text: &[u8], fault: Fault) -> ParseFault
 /// The procedure that a text says, or the first thing that is wrong with the text.
 ///
 /// What is wrong is judged in this order: `TooLong`; a byte of 128 or more, a byte that begins no
-/// token, or a number that is too wide, the first by place; a token with which no text goes on, an
-/// end that comes too soon, or a token that nests too deep, the first by place; the 11th declared
+/// token, or a number that is too wide, the first by offset; a token with which no text goes on, an
+/// end that comes too soon, or a token that nests too deep, the first by offset; the 11th declared
 /// name, a name that is declared twice, or the use of a name that isn't declared, the first by
-/// place; and in the first statement in preorder with such a fault, at the statement's first token,
+/// offset; and in the first statement in preorder with such a fault, at the statement's first token,
 /// the first fault of its forms and conditions.
 pub fn parse_proc(alloc: Global, text: &[u8]) -> Result<Proc, ParseFault>
     ensures says { IfOk result (λ p. SourceOutcome text.now (says p)) }

@@ -23,7 +23,7 @@ use Rattle.dc_printed.specs.Fits.{AreNames, fits, cond_fits}
 use Rattle.dc_printed.proofs.Parts.{written-True, written-False, written-Cmp, written-Not, written-And, written-Or, fits-Cmp, fits-Not, fits-And, fits-Or}
 use Rattle.dc_printed.proofs.Words.{joined, Breaks, token_of}
 use Rattle.dc_printed.proofs.Signs as sign
-use Rattle.dc_printed.proofs.Says.{Says, placed, followed, spaced, spaced_after, says_word, says_sign, says_long, with_last, one_more_last}
+use Rattle.dc_printed.proofs.Says.{Says, moved, followed, spaced, spaced_after, says_word, says_sign, says_long, with_last, one_more_last}
 use Rattle.dc_printed.proofs.Exprs.{SaysExpr, Finds, later, printed_expr, all_tight}
 use Rattle.dc_printed.proofs.Starts.{Starts, starts_cond}
 
@@ -37,7 +37,7 @@ said Loose = cond_of
 said Middle = conj_of
 said Tight = fact_of
 
--- a text at a place reads as a condition of a layer
+-- a text at an offset reads as a condition of a layer
 pub record SaysCond (p : Token → ℕ) (asked : Layer) (at : ℕ) (t rest : List ℕ) (c : Cond) : Type 0 where
   pub tokens : List Token
   pub tree : Tree Token
@@ -121,9 +121,9 @@ pub or_more : (p : Token → ℕ) (at : ℕ) (t w rest : List ℕ) (x y : Cond)
 or_more p at t w rest x y h g =
     let d = an_or h.says.derives in
     let s : Token = token_of (at + length t + 1) k.Or (124 ∷ 124 ∷ []) in
-    let l = spaced (at + length t + 3) 32 w rest (ref conj) g.tokens g.tree refl (placed (omega arith) g.says) in
-    let m = followed (at + length t + 1) (124 ∷ 124 ∷ []) (32 ∷ w) rest (tok k.Or) (ref conj) _ _ _ _ (says_long (at + length t + 1) 124 124 ((32 ∷ w) ++ rest) k.Or k.Or [] sign.or refl) (placed (omega arith) l) in
-    let n = spaced (at + length t) 32 (124 ∷ 124 ∷ 32 ∷ w) rest (seq (tok k.Or) (ref conj)) _ _ refl (placed (omega arith) m) in
+    let l = spaced (at + length t + 3) 32 w rest (ref conj) g.tokens g.tree refl (moved (omega arith) g.says) in
+    let m = followed (at + length t + 1) (124 ∷ 124 ∷ []) (32 ∷ w) rest (tok k.Or) (ref conj) _ _ _ _ (says_long (at + length t + 1) 124 124 ((32 ∷ w) ++ rest) k.Or k.Or [] sign.or refl) (moved (omega arith) l) in
+    let n = spaced (at + length t) 32 (124 ∷ 124 ∷ 32 ∷ w) rest (seq (tok k.Or) (ref conj)) _ _ refl (moved (omega arith) m) in
     let whole : Tree Token = pair d.first_part (with_last d.more_parts (pair (leaf s) g.tree)) in
     record {
       tokens = h.tokens ++ (s ∷ g.tokens);
@@ -142,9 +142,9 @@ pub and_more : (p : Token → ℕ) (at : ℕ) (t w rest : List ℕ) (x y : Cond)
 and_more p at t w rest x y h g =
     let d = an_and h.says.derives in
     let s : Token = token_of (at + length t + 1) k.And (38 ∷ 38 ∷ []) in
-    let l = spaced (at + length t + 3) 32 w rest (ref fact) g.tokens g.tree refl (placed (omega arith) g.says) in
-    let m = followed (at + length t + 1) (38 ∷ 38 ∷ []) (32 ∷ w) rest (tok k.And) (ref fact) _ _ _ _ (says_long (at + length t + 1) 38 38 ((32 ∷ w) ++ rest) k.And k.And [] sign.and refl) (placed (omega arith) l) in
-    let n = spaced (at + length t) 32 (38 ∷ 38 ∷ 32 ∷ w) rest (seq (tok k.And) (ref fact)) _ _ refl (placed (omega arith) m) in
+    let l = spaced (at + length t + 3) 32 w rest (ref fact) g.tokens g.tree refl (moved (omega arith) g.says) in
+    let m = followed (at + length t + 1) (38 ∷ 38 ∷ []) (32 ∷ w) rest (tok k.And) (ref fact) _ _ _ _ (says_long (at + length t + 1) 38 38 ((32 ∷ w) ++ rest) k.And k.And [] sign.and refl) (moved (omega arith) l) in
+    let n = spaced (at + length t) 32 (38 ∷ 38 ∷ 32 ∷ w) rest (seq (tok k.And) (ref fact)) _ _ refl (moved (omega arith) m) in
     let whole : Tree Token = pair d.first_part (with_last d.more_parts (pair (leaf s) g.tree)) in
     record {
       tokens = h.tokens ++ (s ∷ g.tokens);
@@ -159,7 +159,7 @@ and_more p at t w rest x y h g =
 
 pub opposite : (p : Token → ℕ) (at : ℕ) (w rest : List ℕ) (x : Cond) → Starts w → SaysCond p Tight (suc at) w rest x → SaysCond p Tight at (33 ∷ w) rest (Not x)
 opposite p at w rest x s h =
-    let m = followed at (33 ∷ []) w rest (tok k.Bang) (ref fact) _ _ _ _ (says_sign at 33 (w ++ rest) k.Bang k.Bang [] (sign.bang _ (s rest)) refl) (placed (omega arith) h.says) in
+    let m = followed at (33 ∷ []) w rest (tok k.Bang) (ref fact) _ _ _ _ (says_sign at 33 (w ++ rest) k.Bang k.Bang [] (sign.bang _ (s rest)) refl) (moved (omega arith) h.says) in
     record { tokens = _; tree = _; says = record { reads = m.reads; derives = name (first m.derives) }; is = ap Not h.is }
 
 -- `true` and `false`
@@ -188,13 +188,13 @@ short_rel : (at b : ℕ) (rest : List ℕ) (kind : TokenKind) → sign.IsSign b 
     → Says at (32 ∷ b ∷ 32 ∷ []) rest rel_signs (token_of (at + 1) kind (b ∷ []) ∷ []) (leaf (token_of (at + 1) kind (b ∷ [])))
 short_rel at b rest kind s i =
     spaced at 32 (b ∷ 32 ∷ []) rest rel_signs _ _ refl
-    (placed (omega arith) (spaced_after (at + 1) 32 (b ∷ []) rest rel_signs _ _ refl (says_sign (at + 1) b (32 ∷ rest) kind k.Lt (k.Le ∷ k.Gt ∷ k.Ge ∷ k.Eq ∷ k.Ne ∷ []) s i)))
+    (moved (omega arith) (spaced_after (at + 1) 32 (b ∷ []) rest rel_signs _ _ refl (says_sign (at + 1) b (32 ∷ rest) kind k.Lt (k.Le ∷ k.Gt ∷ k.Ge ∷ k.Eq ∷ k.Ne ∷ []) s i)))
 
 long_rel : (at a b : ℕ) (rest : List ℕ) (kind : TokenKind) → sign.IsLongSign a b kind → has is (k.Lt ∷ k.Le ∷ k.Gt ∷ k.Ge ∷ k.Eq ∷ k.Ne ∷ []) kind ≡ true
     → Says at (32 ∷ a ∷ b ∷ 32 ∷ []) rest rel_signs (token_of (at + 1) kind (a ∷ b ∷ []) ∷ []) (leaf (token_of (at + 1) kind (a ∷ b ∷ [])))
 long_rel at a b rest kind s i =
     spaced at 32 (a ∷ b ∷ 32 ∷ []) rest rel_signs _ _ refl
-    (placed (omega arith) (spaced_after (at + 1) 32 (a ∷ b ∷ []) rest rel_signs _ _ refl (says_long (at + 1) a b (32 ∷ rest) kind k.Lt (k.Le ∷ k.Gt ∷ k.Ge ∷ k.Eq ∷ k.Ne ∷ []) s i)))
+    (moved (omega arith) (spaced_after (at + 1) 32 (a ∷ b ∷ []) rest rel_signs _ _ refl (says_long (at + 1) a b (32 ∷ rest) kind k.Lt (k.Le ∷ k.Gt ∷ k.Ge ∷ k.Eq ∷ k.Ne ∷ []) s i)))
 
 pub rel_says : (at : ℕ) (rest : List ℕ) (r : Rel) → SaysRel at rest r
 rel_says at rest Lt = record { sign = _; says = short_rel at 60 rest k.Lt sign.less refl; is = refl }

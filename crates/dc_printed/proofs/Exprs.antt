@@ -14,7 +14,8 @@ use Rattle.dc_syntax.specs.declared.layer.Layer.{Layer}
 use Rattle.dc_syntax.specs.declared.layer.Layer.TheVariants.{Loose, Middle, Tight}
 use Rattle.dc_syntax.specs.Text.{Written, is_within, in_parens, expr_in, written_expr}
 use Rattle.dc_descent.specs.Trees.{unary_of, term_of, factors, expr_of, summands, sum_by}
-use Rattle.dc_printed.proofs.Words.{joined, Breaks, token_of, front, back}
+use Rattle.std.proofs.Math.Seq.{take-append_seam, drop-append_seam}
+use Rattle.dc_printed.proofs.Words.{joined, Breaks, token_of}
 use Rattle.dc_syntax.specs.declared.tree.Expr.{Expr-F, roll-Expr}
 use Rattle.dc_syntax.specs.declared.tree.Expr.TheOpen as F
 use Rattle.dc_syntax.specs.Trees.{EachExpr}
@@ -24,7 +25,7 @@ use Rattle.dc_printed.proofs.Parts.{number_in_range, below, written-Num, written
 use Rattle.dc_printed.specs.Fits.{IsName, AreNames, fits}
 use Rattle.dc_printed.proofs.Decimals.{is_number-decimal, number_value-decimal}
 use Rattle.dc_printed.proofs.Signs.{open_paren, close_paren, plus, minus, star}
-use Rattle.dc_printed.proofs.Says.{Says, IsSign, placed, says_number, says_word, followed, spaced, says_sign, with_last, one_more_last}
+use Rattle.dc_printed.proofs.Says.{Says, IsSign, moved, says_number, says_word, followed, spaced, says_sign, with_last, one_more_last}
 
 -- what an expression of a layer derives from, and what its derivation says
 abbrev pub rule_at : Layer → Name
@@ -37,7 +38,7 @@ said Loose = expr_of
 said Middle = term_of
 said Tight = unary_of
 
--- a text at a place reads as an expression of a layer
+-- a text at an offset reads as an expression of a layer
 pub record SaysExpr (p : Token → ℕ) (asked : Layer) (at : ℕ) (t rest : List ℕ) (e : Expr) : Type 0 where
   pub tokens : List Token
   pub tree : Tree Token
@@ -128,9 +129,9 @@ pub summed : (p : Token → ℕ) (at : ℕ) (t w rest : List ℕ) (x y : Expr) (
 summed p at t w rest x y b kind s i h g =
     let d = a_sum p h.says.derives in
     let sign : Token = token_of (at + length t + 1) kind (b ∷ []) in
-    let l = spaced (at + length t + 2) 32 w rest (ref term) g.tokens g.tree refl (placed (omega arith) g.says) in
-    let m = followed (at + length t + 1) (b ∷ []) (32 ∷ w) rest sum_signs (ref term) _ _ _ _ (says_sign (at + length t + 1) b ((32 ∷ w) ++ rest) kind k.Plus (k.Minus ∷ []) s i) (placed (omega arith) l) in
-    let n = spaced (at + length t) 32 (b ∷ 32 ∷ w) rest (seq sum_signs (ref term)) _ _ refl (placed (omega arith) m) in
+    let l = spaced (at + length t + 2) 32 w rest (ref term) g.tokens g.tree refl (moved (omega arith) g.says) in
+    let m = followed (at + length t + 1) (b ∷ []) (32 ∷ w) rest sum_signs (ref term) _ _ _ _ (says_sign (at + length t + 1) b ((32 ∷ w) ++ rest) kind k.Plus (k.Minus ∷ []) s i) (moved (omega arith) l) in
+    let n = spaced (at + length t) 32 (b ∷ 32 ∷ w) rest (seq sum_signs (ref term)) _ _ refl (moved (omega arith) m) in
     let whole : Tree Token = pair d.first_part (with_last d.more_parts (pair (leaf sign) g.tree)) in
     record {
       tokens = h.tokens ++ (sign ∷ g.tokens);
@@ -150,9 +151,9 @@ pub multiplied : (p : Token → ℕ) (at : ℕ) (t w rest : List ℕ) (x y : Exp
 multiplied p at t w rest x y h g =
     let d = a_product p h.says.derives in
     let sign : Token = token_of (at + length t + 1) k.Star (42 ∷ []) in
-    let l = spaced (at + length t + 2) 32 w rest (ref unary) g.tokens g.tree refl (placed (omega arith) g.says) in
-    let m = followed (at + length t + 1) (42 ∷ []) (32 ∷ w) rest (tok k.Star) (ref unary) _ _ _ _ (says_sign (at + length t + 1) 42 ((32 ∷ w) ++ rest) k.Star k.Star [] (star 32) refl) (placed (omega arith) l) in
-    let n = spaced (at + length t) 32 (42 ∷ 32 ∷ w) rest (seq (tok k.Star) (ref unary)) _ _ refl (placed (omega arith) m) in
+    let l = spaced (at + length t + 2) 32 w rest (ref unary) g.tokens g.tree refl (moved (omega arith) g.says) in
+    let m = followed (at + length t + 1) (42 ∷ []) (32 ∷ w) rest (tok k.Star) (ref unary) _ _ _ _ (says_sign (at + length t + 1) 42 ((32 ∷ w) ++ rest) k.Star k.Star [] (star 32) refl) (moved (omega arith) l) in
+    let n = spaced (at + length t) 32 (42 ∷ 32 ∷ w) rest (seq (tok k.Star) (ref unary)) _ _ refl (moved (omega arith) m) in
     let whole : Tree Token = pair d.first_part (with_last d.more_parts (pair (leaf sign) g.tree)) in
     record {
       tokens = h.tokens ++ (sign ∷ g.tokens);
@@ -167,7 +168,7 @@ multiplied p at t w rest x y h g =
 
 pub negated : (p : Token → ℕ) (at : ℕ) (w rest : List ℕ) (x : Expr) → SaysExpr p Tight (suc at) w rest x → SaysExpr p Tight at (45 ∷ w) rest (Neg x)
 negated p at w rest x h =
-    let m = followed at (45 ∷ []) w rest (tok k.Minus) (ref unary) _ _ _ _ (says_sign at 45 (w ++ rest) k.Minus k.Minus [] (minus _) refl) (placed (omega arith) h.says) in
+    let m = followed at (45 ∷ []) w rest (tok k.Minus) (ref unary) _ _ _ _ (says_sign at 45 (w ++ rest) k.Minus k.Minus [] (minus _) refl) (moved (omega arith) h.says) in
     record { tokens = _; tree = _; says = record { reads = m.reads; derives = name (first m.derives) }; is = ap Neg h.is }
 
 pub a_number : (p : Token → ℕ) (at n : ℕ) (rest : List ℕ) → n ≤ 2147483647 → Breaks rest → SaysExpr p Tight at (decimal n) rest (Num n)
@@ -197,10 +198,10 @@ drop_sum (suc m) n (x ∷ xs) = ap (λ k. drop k (x ∷ xs)) (let e : suc m + n 
 
 -- after a part, the rest of the whole
 pub later : (whole t u : List ℕ) (at : ℕ) → drop at whole ≡ t ++ u → drop (at + length t) whole ≡ u
-later whole t u at h = drop_sum at (length t) whole ∙ (ap (drop (length t)) h ∙ back t u)
+later whole t u at h = drop_sum at (length t) whole ∙ (ap (drop (length t)) h ∙ drop-append_seam t u)
 
 pub here : (whole w u : List ℕ) (at : ℕ) → drop at whole ≡ w ++ u → slice_range whole at (at + length w) ≡ w
-here whole w u at h = ap (λ n. take n (drop at whole)) (let e : at + length w - at ≡ length w = omega arith in e) ∙ (ap (take (length w)) h ∙ front w u)
+here whole w u at h = ap (λ n. take n (drop at whole)) (let e : at + length w - at ≡ length w = omega arith in e) ∙ (ap (take (length w)) h ∙ take-append_seam w u)
 
 bare_text : (asked : Layer) (w : Written) → is_within w.layer asked ≡ true → expr_in asked w ≡ w.text
 bare_text asked w h = rw h refl

@@ -131,9 +131,6 @@ module _ (M : Measure) where
   pub text_brace : (t : List ℕ) (i : ℕ) → TextSized t i → TextSized (123 ∷ (t ++ 125 ∷ [])) (M.b i)
   text_brace t i h = subst (λ v. M.Sized (123 ∷ v) (M.b i)) (sym (brackets_of-append t (125 ∷ []))) (let f = M.brace in f (brackets_of t) i h)
 
-  pub by_part : (t : List ℕ) (w v : Part) → w ≡ v → TextSized t v.need → TextSized t w.need
-  by_part t w v h g = subst (λ x. TextSized t x.need) (sym h) g
-
   -- in brackets, or bare
   in_expr : (asked : Layer) (w : Written) (v : Part) → w.layer ≡ v.layer → TextSized w.text v.need → TextSized (expr_in asked w) (need_in asked v)
   in_expr asked w v e h = subst (λ l. TextSized (expr_in asked w) (if is_within l asked then v.need else suc v.need)) e (go (is_within w.layer asked))

@@ -11,7 +11,7 @@ use Rattle.dc_grammar.specs.Language.{Name, language}
 use Rattle.dc_printed.specs.Brackets.{brackets_of, bracket_of}
 use Rattle.dc_printed.proofs.Words.{word_plain, number_plain, word_kind_plain, Reads, joined, token_of, word_read, gap_read, Breaks, word_front, number_front, sign_front, long_front}
 
--- a text at a place, with a rest after it, reads as these tokens, which the rule derives in this way
+-- a text at an offset, with a rest after it, reads as these tokens, which the rule derives in this way
 pub record Says (at : ℕ) (t rest : List ℕ) (r : Rule TokenKind Name) (ts : List Token) (a : Tree Token) : Type 0 where
   pub reads : Reads at t rest ts
   pub derives : Derives language r ts a
@@ -20,9 +20,9 @@ pub followed : (at : ℕ) (t u rest : List ℕ) (r s : Rule TokenKind Name) (ts 
     → Says at t (u ++ rest) r ts a → Says (at + length t) u rest s us b → Says at (t ++ u) rest (seq r s) (ts ++ us) (pair a b)
 followed at t u rest r s ts us a b h g = record { reads = joined at t u rest ts us h.reads g.reads; derives = both h.derives g.derives }
 
--- the same place, said in another way
-pub placed : {at to : ℕ} {t rest : List ℕ} {r : Rule TokenKind Name} {ts : List Token} {a : Tree Token} → at ≡ to → Says at t rest r ts a → Says to t rest r ts a
-placed {t = t} {rest} {r} {ts} {a} e h = subst (λ n. Says n t rest r ts a) e h
+-- the same offset, said in another way
+pub moved : {at to : ℕ} {t rest : List ℕ} {r : Rule TokenKind Name} {ts : List Token} {a : Tree Token} → at ≡ to → Says at t rest r ts a → Says to t rest r ts a
+moved {t = t} {rest} {r} {ts} {a} e h = subst (λ n. Says n t rest r ts a) e h
 
 -- a separator before it
 pub spaced : (at b : ℕ) (t rest : List ℕ) (r : Rule TokenKind Name) (ts : List Token) (a : Tree Token) → is_separator b ≡ true → Says (suc at) t rest r ts a → Says at (b ∷ t) rest r ts a

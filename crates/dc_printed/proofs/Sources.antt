@@ -26,11 +26,11 @@ use Rattle.dc_printed.proofs.Words.{Reads, nothing_read, Breaks, token_of}
 use Rattle.dc_printed.proofs.Signs as sign
 use Rattle.dc_printed.proofs.Says.{Says, says_word}
 use Rattle.dc_printed.proofs.Exprs.{Finds, later, here}
-use Rattle.dc_printed.proofs.Stmts.{◌▷◌, sign_at, spaced_at, lined_at, ended, reworded, named, chosen, passed, nothing_says, name_says, at_place, printed_stmts}
+use Rattle.dc_printed.proofs.Stmts.{◌▷◌, sign_at, spaced_at, lined_at, ended, reworded, named, chosen, passed, nothing_says, name_says, at_offset, printed_stmts}
 
 -- ---- lists of names
 
--- the tokens of names at places of the whole, which spell them
+-- the tokens of names at offsets of the whole, which spell them
 pub record SaysNames (whole : List ℕ) (at : ℕ) (t rest : List ℕ) (ns : List (List ℕ)) : Type 0 where
   pub tokens : List Token
   pub tree : Tree Token
@@ -66,7 +66,7 @@ more_says whole at (n ∷ ns) rest h q b =
     let e = later whole (44 ∷ 32 ∷ []) (n ++ (commas ns ++ rest)) at (q ∙ ap (λ v. 44 ∷ 32 ∷ v) (append_assoc n (commas ns) rest)) in
     let m = more_says whole (at + 2 + length n) ns rest h.1 (later whole n (commas ns ++ rest) (at + 2) e) b in
     let d = sign_at {at = at} {b = 44} (sign.comma _) refl ▷ spaced_at (name_says (at + 1 + 1) n (commas ns ++ rest) h.0 (breaks_more ns rest b)) in
-    let s : spelled whole (token_of (at + 1 + 1) k.Name n) ≡ n = here whole n (commas ns ++ rest) (at + 1 + 1) (at_place whole (omega arith) e) in
+    let s : spelled whole (token_of (at + 1 + 1) k.Name n) ≡ n = here whole n (commas ns ++ rest) (at + 1 + 1) (at_offset whole (omega arith) e) in
     record {
       tokens = _;
       tree = pair _ m.tree;
@@ -122,7 +122,7 @@ locals_say : (whole : List ℕ) (at : ℕ) (ns : List (List ℕ)) (rest : List �
 locals_say whole at [] rest h q = record { tokens = _; tree = _; says = passed (nothing_says at rest); spell = refl }
 locals_say whole at (n ∷ ns) rest h q =
     let e = later whole (118 ∷ 97 ∷ 114 ∷ 32 ∷ []) _ at q ∙ append_assoc (listed (n ∷ ns)) (59 ∷ 10 ∷ []) rest in
-    let d = names_say whole (at + 3 + 1) n ns (59 ∷ 10 ∷ rest) h.0 h.1 (at_place whole (omega arith) e) refl in
+    let d = names_say whole (at + 3 + 1) n ns (59 ∷ 10 ∷ rest) h.0 h.1 (at_offset whole (omega arith) e) refl in
     let v = says_word at (118 ∷ 97 ∷ 114 ∷ []) ((32 ∷ (listed (n ∷ ns) ++ 59 ∷ [])) ++ 10 ∷ rest) k.Var refl sign.word-var (λ w. refl) refl refl in
     let all = reworded (ap (λ t. 118 ∷ 97 ∷ 114 ∷ 32 ∷ t) (append_assoc (listed (n ∷ ns)) (59 ∷ []) (10 ∷ []))) (ended (v ▷ spaced_at (d.says ▷ sign_at (sign.semi _) refl))) in
     record { tokens = _; tree = _; says = chosen all; spell = d.spell }
@@ -188,9 +188,9 @@ printed_by p place h finds =
     let v = later whole (listed ps) _ (n5 + 1) u ∙ after_locals (locals_text ls) b in
     let w = later whole (41 ∷ 32 ∷ 123 ∷ 10 ∷ []) _ (n5 + 1 + length (listed ps)) v in
     let x = later whole (locals_text ls) _ (n5 + 1 + length (listed ps) + 4) w ∙ append_assoc b (125 ∷ []) (10 ∷ []) in
-    let m = params_say whole (0 + 4 + 1 + length p.name + 1) ps ((41 ∷ 32 ∷ 123 ∷ 10 ∷ (locals_text ls ++ (b ++ 125 ∷ []))) ++ 10 ∷ []) (names-take p.params p.names all) (at_place whole {m = n5 + 1} (omega arith) u) refl in
-    let n = locals_say whole (0 + 4 + 1 + length p.name + 1 + length (listed ps) + 1 + 1 + 1 + 1) ls ((b ++ 125 ∷ []) ++ 10 ∷ []) (names-drop p.params p.names all) (at_place whole {m = n5 + 1 + length (listed ps) + 4} (omega arith) w) in
-    let y = printed_stmts place whole p.names finds h.names p.body h.body (0 + 4 + 1 + length p.name + 1 + length (listed ps) + 1 + 1 + 1 + 1 + length (locals_text ls)) (125 ∷ 10 ∷ []) (at_place whole {m = n5 + 1 + length (listed ps) + 4 + length (locals_text ls)} (omega arith) x) in
+    let m = params_say whole (0 + 4 + 1 + length p.name + 1) ps ((41 ∷ 32 ∷ 123 ∷ 10 ∷ (locals_text ls ++ (b ++ 125 ∷ []))) ++ 10 ∷ []) (names-take p.params p.names all) (at_offset whole {m = n5 + 1} (omega arith) u) refl in
+    let n = locals_say whole (0 + 4 + 1 + length p.name + 1 + length (listed ps) + 1 + 1 + 1 + 1) ls ((b ++ 125 ∷ []) ++ 10 ∷ []) (names-drop p.params p.names all) (at_offset whole {m = n5 + 1 + length (listed ps) + 4} (omega arith) w) in
+    let y = printed_stmts place whole p.names finds h.names p.body h.body (0 + 4 + 1 + length p.name + 1 + length (listed ps) + 1 + 1 + 1 + 1 + length (locals_text ls)) (125 ∷ 10 ∷ []) (at_offset whole {m = n5 + 1 + length (listed ps) + 4 + length (locals_text ls)} (omega arith) x) in
     let proc = says_word 0 (112 ∷ 114 ∷ 111 ∷ 99 ∷ []) ((32 ∷ (p.name ++ (40 ∷ (listed ps ++ (41 ∷ 32 ∷ 123 ∷ 10 ∷ (locals_text ls ++ (b ++ 125 ∷ []))))))) ++ 10 ∷ []) k.Proc refl sign.word-proc (λ w. refl) refl refl in
     let d = ended (proc ▷ spaced_at (name_says (0 + 4 + 1) p.name _ h.name refl ▷ sign_at (sign.open_paren _) refl ▷ m.says ▷ sign_at (sign.close_paren _) refl ▷ spaced_at (sign_at (sign.open_brace _) refl ▷ lined_at (n.says ▷ y.says ▷ sign_at (sign.close_brace _) refl)))) in
     let few : length ps ≡ p.params = (let l = length-take p.params p.names in let i = h.params in omega arith) in

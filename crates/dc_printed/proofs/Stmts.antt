@@ -25,7 +25,7 @@ use Rattle.dc_printed.proofs.StmtParts.{text-Skip, text-Assign, text-AnyOf, text
 use Rattle.dc_printed.proofs.Words as words
 use Rattle.dc_printed.proofs.Words.{nothing_read, Breaks, token_of}
 use Rattle.dc_printed.proofs.Signs as sign
-use Rattle.dc_printed.proofs.Says.{Says, placed, followed, spaced, spaced_after, says_word, says_sign}
+use Rattle.dc_printed.proofs.Says.{Says, moved, followed, spaced, spaced_after, says_word, says_sign}
 use Rattle.dc_printed.proofs.Exprs.{SaysExpr, Finds, later, here, printed_expr}
 use Rattle.dc_printed.proofs.Conds.{SaysCond, printed_cond}
 
@@ -42,10 +42,10 @@ sign_at {at} {b} {rest} {kind} s i = says_sign at b rest kind kind [] s (rw i re
 
 -- a space or a line feed before a part
 pub spaced_at : {at : ℕ} {t rest : List ℕ} {r : Rule TokenKind Name} {ts : List Token} {a : Tree Token} → Says (at + 1) t rest r ts a → Says at (32 ∷ t) rest r ts a
-spaced_at {at} h = spaced at 32 _ _ _ _ _ refl (placed (omega arith) h)
+spaced_at {at} h = spaced at 32 _ _ _ _ _ refl (moved (omega arith) h)
 
 pub lined_at : {at : ℕ} {t rest : List ℕ} {r : Rule TokenKind Name} {ts : List Token} {a : Tree Token} → Says (at + 1) t rest r ts a → Says at (10 ∷ t) rest r ts a
-lined_at {at} h = spaced at 10 _ _ _ _ _ refl (placed (omega arith) h)
+lined_at {at} h = spaced at 10 _ _ _ _ _ refl (moved (omega arith) h)
 
 -- the line feed at the end of a line
 pub ended : {at : ℕ} {t rest : List ℕ} {r : Rule TokenKind Name} {ts : List Token} {a : Tree Token} → Says at t (10 ∷ rest) r ts a → Says at (t ++ 10 ∷ []) rest r ts a
@@ -63,7 +63,7 @@ chosen h = record { reads = h.reads; derives = first h.derives }
 pub passed : {at : ℕ} {t rest : List ℕ} {r s : Rule TokenKind Name} {ts : List Token} {a : Tree Token} → Says at t rest s ts a → Says at t rest (alt r s) ts (right a)
 passed h = record { reads = h.reads; derives = second h.derives }
 
--- ---- what a text at a place reads as
+-- ---- what a text at an offset reads as
 
 pub record SaysStmt (p : Token → ℕ) (at : ℕ) (t rest : List ℕ) (S : Stmt) : Type 0 where
   pub tokens : List Token
@@ -190,9 +190,9 @@ loop_says p at c x rest b A h f =
 
 -- ---- the text of a statement
 
--- the same place, said in another way
-pub at_place : (whole : List ℕ) {x : List ℕ} {m n : ℕ} → m ≡ n → drop m whole ≡ x → drop n whole ≡ x
-at_place whole {x} e h = subst (λ i. drop i whole ≡ x) e h
+-- the same offset, said in another way
+pub at_offset : (whole : List ℕ) {x : List ℕ} {m n : ℕ} → m ≡ n → drop m whole ≡ x → drop n whole ≡ x
+at_offset whole {x} e h = subst (λ i. drop i whole ≡ x) e h
 
 grouped_between : (w t u : List ℕ) → w ++ (32 ∷ 61 ∷ 32 ∷ ((97 ∷ 110 ∷ 121 ∷ 40 ∷ (t ++ (44 ∷ 32 ∷ (u ++ 41 ∷ [])))) ++ 59 ∷ 10 ∷ [])) ≡ w ++ (32 ∷ 61 ∷ 32 ∷ 97 ∷ 110 ∷ 121 ∷ 40 ∷ (t ++ (44 ∷ 32 ∷ (u ++ (41 ∷ 59 ∷ 10 ∷ [])))))
 grouped_between w t u = simp append_assoc refl
@@ -263,7 +263,7 @@ module _ (p : Token → ℕ) (whole : List ℕ) (names : List (List ℕ)) (finds
       reworded_stmt p at rest (s.Tick e) (sym (text-Tick names e))
       (tick_says p at (expr_text names e) rest e
       (an_expr e (sym (fits-Tick (length names) e) ∙ f) (at + 4 + 1) (59 ∷ 10 ∷ rest)
-      (at_place whole (omega arith) (later whole (116 ∷ 105 ∷ 99 ∷ 107 ∷ 32 ∷ []) _ at r ∙ append_assoc (expr_text names e) (59 ∷ 10 ∷ []) rest)) refl))
+      (at_offset whole (omega arith) (later whole (116 ∷ 105 ∷ 99 ∷ 107 ∷ 32 ∷ []) _ at r ∙ append_assoc (expr_text names e) (59 ∷ 10 ∷ []) rest)) refl))
 
   read-Assume : (c : Cond) → Read (s.Assume c)
   read-Assume c f at rest q =
@@ -271,7 +271,7 @@ module _ (p : Token → ℕ) (whole : List ℕ) (names : List (List ℕ)) (finds
       reworded_stmt p at rest (s.Assume c) (sym (text-Assume names c))
       (assume_says p at (cond_text names c) rest c
       (a_cond c (sym (fits-Assume (length names) c) ∙ f) (at + 6 + 1 + 1) (41 ∷ 59 ∷ 10 ∷ rest)
-      (at_place whole (omega arith) (later whole (97 ∷ 115 ∷ 115 ∷ 117 ∷ 109 ∷ 101 ∷ 32 ∷ 40 ∷ []) _ at r ∙ append_assoc (cond_text names c) (41 ∷ 59 ∷ 10 ∷ []) rest)) refl))
+      (at_offset whole (omega arith) (later whole (97 ∷ 115 ∷ 115 ∷ 117 ∷ 109 ∷ 101 ∷ 32 ∷ 40 ∷ []) _ at r ∙ append_assoc (cond_text names c) (41 ∷ 59 ∷ 10 ∷ []) rest)) refl))
 
   read-Assign : (i : ℕ) (e : Expr) → Read (s.Assign i e)
   read-Assign i e f at rest q =
@@ -282,7 +282,7 @@ module _ (p : Token → ℕ) (whole : List ℕ) (names : List (List ℕ)) (finds
       reworded_stmt p at rest (s.Assign i e) (sym (text-Assign names i e))
       (assign_says p at i w (expr_text names e) rest e (are i l) (name_here at i _ l r)
       (an_expr e (and_right _ _ z) (at + length w + 1 + 1 + 1) (59 ∷ 10 ∷ rest)
-      (at_place whole (omega arith) (later whole (32 ∷ 61 ∷ 32 ∷ []) _ (at + length w) (later whole w _ at r) ∙ append_assoc (expr_text names e) (59 ∷ 10 ∷ []) rest)) refl))
+      (at_offset whole (omega arith) (later whole (32 ∷ 61 ∷ 32 ∷ []) _ (at + length w) (later whole w _ at r) ∙ append_assoc (expr_text names e) (59 ∷ 10 ∷ []) rest)) refl))
 
   read-AnyOf : (i : ℕ) → Read (s.AnyOf i)
   read-AnyOf i f at rest q =
@@ -305,9 +305,9 @@ module _ (p : Token → ℕ) (whole : List ℕ) (names : List (List ℕ)) (finds
       let v = later whole t _ _ x in
       reworded_stmt p at rest (s.Between i a b) (sym (text-Between names i a b ∙ g))
       (between_says p at i w t u rest a b (are i l) (name_here at i _ l r)
-      (an_expr a (and_left _ _ y) (at + length w + 1 + 1 + 1 + 3 + 1) ((44 ∷ 32 ∷ (u ++ 41 ∷ [])) ++ 59 ∷ 10 ∷ rest) (at_place whole (omega arith) x) refl)
+      (an_expr a (and_left _ _ y) (at + length w + 1 + 1 + 1 + 3 + 1) ((44 ∷ 32 ∷ (u ++ 41 ∷ [])) ++ 59 ∷ 10 ∷ rest) (at_offset whole (omega arith) x) refl)
       (an_expr b (and_right _ _ y) (at + length w + 1 + 1 + 1 + 3 + 1 + length t + 1 + 1) (41 ∷ 59 ∷ 10 ∷ rest)
-      (at_place whole (omega arith) (later whole (44 ∷ 32 ∷ []) _ _ v ∙ append_assoc u (41 ∷ []) (59 ∷ 10 ∷ rest))) refl))
+      (at_offset whole (omega arith) (later whole (44 ∷ 32 ∷ []) _ _ v ∙ append_assoc u (41 ∷ []) (59 ∷ 10 ∷ rest))) refl))
 
   -- a branch, where its choice is read
   branch_read : (c : List ℕ) (b : Option Cond) (A B : List Stmt) → ReadAll A → ReadAll B → stmts_fit (length names) A ≡ true → stmts_fit (length names) B ≡ true → (at : ℕ) (rest : List ℕ)
@@ -324,9 +324,9 @@ module _ (p : Token → ℕ) (whole : List ℕ) (names : List (List ℕ)) (finds
       let j = later whole (125 ∷ 32 ∷ 101 ∷ 108 ∷ 115 ∷ 101 ∷ 32 ∷ 123 ∷ 10 ∷ []) _ _ i in
       let n = length-append x (125 ∷ []) in
       reworded_stmt p at rest (branch_by b A B) (grouped_branch c x y)
-      (branch_says p at c x y rest b A B (o _ (at_place whole (omega arith) a))
-      (says_block p (at + 2 + 1 + 1 + length c + 1 + 1) x ((32 ∷ 101 ∷ 108 ∷ 115 ∷ 101 ∷ 32 ∷ blocked y) ++ 10 ∷ rest) A (h f _ _ (at_place whole (omega arith) e)))
-      (says_block p (at + 2 + 1 + 1 + length c + 1 + 1 + length (blocked x) + 1 + 4 + 1) y (10 ∷ rest) B (g k _ _ (at_place whole (omega arith) j))))
+      (branch_says p at c x y rest b A B (o _ (at_offset whole (omega arith) a))
+      (says_block p (at + 2 + 1 + 1 + length c + 1 + 1) x ((32 ∷ 101 ∷ 108 ∷ 115 ∷ 101 ∷ 32 ∷ blocked y) ++ 10 ∷ rest) A (h f _ _ (at_offset whole (omega arith) e)))
+      (says_block p (at + 2 + 1 + 1 + length c + 1 + 1 + length (blocked x) + 1 + 4 + 1) y (10 ∷ rest) B (g k _ _ (at_offset whole (omega arith) j))))
 
   read-If : (c : Cond) (A B : List Stmt) → ReadAll A → ReadAll B → Read (s.If c A B)
   read-If c A B h g f at rest q =
@@ -353,8 +353,8 @@ module _ (p : Token → ℕ) (whole : List ℕ) (names : List (List ℕ)) (finds
       let d = later whole c _ _ a ∙ loop_block x rest in
       let e = later whole (41 ∷ 32 ∷ 123 ∷ 10 ∷ []) _ _ d in
       reworded_stmt p at rest (loop_by b A) (grouped_loop c x)
-      (loop_says p at c x rest b A (o _ (at_place whole (omega arith) a))
-      (says_block p (at + 5 + 1 + 1 + length c + 1 + 1) x (10 ∷ rest) A (h f _ _ (at_place whole (omega arith) e))))
+      (loop_says p at c x rest b A (o _ (at_offset whole (omega arith) a))
+      (says_block p (at + 5 + 1 + 1 + length c + 1 + 1) x (10 ∷ rest) A (h f _ _ (at_offset whole (omega arith) e))))
 
   read-While : (c : Cond) (A : List Stmt) → ReadAll A → Read (s.While c A)
   read-While c A h f at rest q =

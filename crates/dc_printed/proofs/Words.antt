@@ -6,6 +6,7 @@ use Rattle.std.specs.List.{list_all}
 use Rattle.dc_printed.specs.Brackets.{is_bracket, brackets_of, bracket_of, brackets_in}
 use Rattle.std.proofs.lemmas.Bool.Decides.{nat_tests}
 use Rattle.std.proofs.Math.ListN.{get_or-append}
+use Rattle.std.proofs.Math.Seq.{take-append_seam, drop-append_seam}
 use Rattle.std.proofs.lemmas.List.Elements.{All-get_or}
 use Rattle.std.proofs.lemmas.List.Sums.{AllPass-from_list_all}
 use Rattle.dc_tokens.specs.declared.token.TokenKind.{TokenKind}
@@ -16,7 +17,7 @@ use Rattle.dc_tokens.specs.Pieces.{is_separator, Longest, separator, token}
 use Rattle.dc_tokens.specs.Texts.{Tokens, piece}
 use Rattle.dc_tokens.proofs.Front.{and_left, and_right, word_longest, number_longest, long_longest, short_longest}
 
--- a text at a place has these tokens, whatever the tokens of the rest after it are
+-- a text at an offset has these tokens, whatever the tokens of the rest after it are
 pub record Reads (at : ℕ) (t rest : List ℕ) (ts : List Token) : Type 0 where
   pub read : (more : List Token) → Tokens (at + length t) rest more → Tokens at (t ++ rest) (ts ++ more)
   -- the tokens have the brackets of the text
@@ -45,14 +46,6 @@ joined at t u rest ts us h g = record {
   same = brackets_in-append ts us ∙ ((λ j. h.same j ++ g.same j) ∙ sym (brackets_of-append t u));
 }
 
-pub front : (w rest : List ℕ) → take (length w) (w ++ rest) ≡ w
-front [] rest = refl
-front (b ∷ w) rest = ap (λ v. b ∷ v) (front w rest)
-
-pub back : (w rest : List ℕ) → drop (length w) (w ++ rest) ≡ rest
-back [] rest = refl
-back (b ∷ w) rest = back w rest
-
 -- the token that a word is
 abbrev pub token_of : ℕ → TokenKind → List ℕ → Token
 token_of at kind w = record { kind = kind; at = at; end = at + length w; value = value_of kind w }
@@ -60,7 +53,7 @@ token_of at kind w = record { kind = kind; at = at; end = at + length w; value =
 -- a word is read where it is the longest token at the front
 pub word_read : (at : ℕ) (w rest : List ℕ) (kind : TokenKind) → 0 < length w → Longest (w ++ rest) (length w) kind → value_of kind w ≤ 2147483647 → bracket_of kind ≡ brackets_of w
     → Reads at w rest (token_of at kind w ∷ [])
-word_read at w rest kind some l v e = record { read = λ more d. go more d (front w rest) (back w rest); same = append-nil (bracket_of kind) ∙ e }
+word_read at w rest kind some l v e = record { read = λ more d. go more d (take-append_seam w rest) (drop-append_seam w rest); same = append-nil (bracket_of kind) ∙ e }
   where
     go : (more : List Token) → Tokens (at + length w) rest more → take (length w) (w ++ rest) ≡ w → drop (length w) (w ++ rest) ≡ rest → Tokens at (w ++ rest) (token_of at kind w ∷ more)
     go more d e f =
@@ -97,7 +90,7 @@ passes_at p w h i l = All-get_or (λ b. p b ≡ true) w i 0 l (AllPass-from_list
 pub word_front : (w rest : List ℕ) → is_word w ≡ true → Breaks rest → Longest (w ++ rest) (length w) (word_kind w)
 word_front [] rest h b = absurd cc
 word_front (x ∷ w) rest h b =
-    subst (λ v. Longest (x ∷ w ++ rest) (length (x ∷ w)) (word_kind v)) (front (x ∷ w) rest)
+    subst (λ v. Longest (x ∷ w ++ rest) (length (x ∷ w)) (word_kind v)) (take-append_seam (x ∷ w) rest)
     (word_longest (x ∷ w ++ rest) (length (x ∷ w)) (omega arith) (and_left (is_letter x) _ h) (let l = length-append (x ∷ w) rest in omega arith)
     (λ i l. ap is_word_byte (in_front (x ∷ w) rest i l) ∙ passes_at is_word_byte (x ∷ w) (rw (and_left (is_letter x) _ h) (and_right (is_letter x) _ h)) i l)
     (λ l. ap is_word_byte (after (x ∷ w) rest) ∙ b))

@@ -1,4 +1,4 @@
 pub mod Spelling
 pub mod Pieces
 pub mod Texts
-pub mod Places
+pub mod Lines

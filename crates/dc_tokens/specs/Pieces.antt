@@ -53,7 +53,7 @@ pub record IsBadComment (bs : List ℕ) (n : ℕ) : Type 0 where
 
 -- ---- pieces
 
--- the text begins with a piece of n bytes, at a place of the whole; a token is told
+-- the text begins with a piece of n bytes, at an offset of the whole; a token is told
 pub data Piece : ℕ → List ℕ → Option Token → ℕ → Type 0 where
   separator : {at b : ℕ} {bs : List ℕ} → is_separator b ≡ true → Piece at (b ∷ bs) None 1
   comment : {at n : ℕ} {bs : List ℕ} → IsComment bs n → Piece at bs None n
@@ -69,7 +69,8 @@ pub data Piece : ℕ → List ℕ → Option Token → ℕ → Type 0 where
 -- what is wrong at the front of a text, and where
 pub data Wrong : ℕ → List ℕ → LexFault → Type 0 where
   not_ascii : {at b : ℕ} {bs : List ℕ} → 128 ≤ b → Wrong at (b ∷ bs) (NotAscii at)
-  not_ascii_in_comment : {at n : ℕ} {bs : List ℕ} → IsBadComment bs n → Wrong at bs (NotAscii (at + n))
+  not_ascii_in_comment : {at n : ℕ} {bs : List ℕ} → IsBadComment bs n
+      → Wrong at bs (NotAscii (at + n))
   -- no separator, no comment and no token
   bad_character : {at b : ℕ} {bs : List ℕ} → b < 128 → is_separator b ≡ false
       → (BeginsComment (b ∷ bs) → ⊥) → NoToken (b ∷ bs) → Wrong at (b ∷ bs) (BadCharacter at)

@@ -9,7 +9,8 @@ abbrev pub with_token : Option Token → List Token → List Token
 with_token None ts = ts
 with_token (Some t) ts = t ∷ ts
 
--- the tokens of a text whose first byte stands at a place of the whole: it is pieces, one after another
+-- the tokens of a text whose first byte stands at an offset of the whole: it is pieces, one after
+-- another
 pub data Tokens : ℕ → List ℕ → List Token → Type 0 where
   end : {at : ℕ} → Tokens at [] []
   piece : {at n : ℕ} {bs : List ℕ} {found : Option Token} {ts : List Token} → 0 < length bs
@@ -29,7 +30,7 @@ IsCause bs (NotAscii p) = Fails 0 bs (NotAscii p)
 IsCause bs (BadCharacter p) = Fails 0 bs (BadCharacter p)
 IsCause bs (LiteralTooWide p) = Fails 0 bs (LiteralTooWide p)
 
--- the tokens stand one after another, none empty, from one place up to another
+-- the tokens stand one after another, none empty, from one offset up to another
 abbrev pub IsRising : ℕ → ℕ → List Token → Type 0
 IsRising from to [] = from ≤ to
 IsRising from to (t ∷ ts) = (from ≤ t.at) × (t.at < t.end) × IsRising t.end to ts

@@ -2,10 +2,10 @@
 #![tactic(auto)]
 
 mod lex;
-mod place;
+mod lines;
 mod scan;
 mod token;
 
 pub use lex::{one_reading, tokens};
-pub use place::line_col;
+pub use lines::line_col;
 pub use token::{LexFault, Token, TokenKind};

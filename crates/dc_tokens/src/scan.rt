@@ -124,8 +124,10 @@ fn long_sign(a: u8, b: u8) -> Option<TokenKind>
 /// The sign of two bytes at the front.
 fn long_sign_at(bytes: &[u8]) -> Option<TokenKind>
     ensures { MatchOption result
-        (1 < length bytes.now → spelling.long_sign (slice_index bytes.now 0) (slice_index bytes.now 1) ≡ None)
-        (λ kind. (1 < length bytes.now) × (spelling.long_sign (slice_index bytes.now 0) (slice_index bytes.now 1) ≡ Some kind)) }
+        (1 < length bytes.now
+        → spelling.long_sign (slice_index bytes.now 0) (slice_index bytes.now 1) ≡ None)
+        (λ kind. (1 < length bytes.now)
+        × (spelling.long_sign (slice_index bytes.now 0) (slice_index bytes.now 1) ≡ Some kind)) }
 {
     if bytes.len() > 1 {
         long_sign(bytes[0], bytes[1])
@@ -192,7 +194,8 @@ fn number_value(digits: &[u8]) -> Option<u32>
 fn comment_front(bytes: &[u8]) -> Option<usize>
     ensures { MatchOption result
         (pieces.BeginsComment bytes.now → ⊥)
-        (λ n. pieces.IsCommentFront bytes.now n × (n < length bytes.now → pieces.is_comment_byte (slice_index bytes.now n) ≡ false)) }
+        (λ n. pieces.IsCommentFront bytes.now n
+        × (n < length bytes.now → pieces.is_comment_byte (slice_index bytes.now n) ≡ false)) }
 {
     if bytes.len() > 1 && bytes[0] == b'/' && bytes[1] == b'/' {
         let mut n = 2;

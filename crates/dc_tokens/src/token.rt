@@ -52,7 +52,7 @@ pub struct Token {
     pub value: u32,
 }
 
-/// Why a text has no tokens, by the place of a byte.
+/// Why a text has no tokens, by the offset of a byte.
 #[derive(Debug, Drop, Error)]
 pub enum LexFault {
     /// This byte is 128 or more.

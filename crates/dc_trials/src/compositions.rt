@@ -10,7 +10,7 @@ use dc_system::{Edge, System, SystemFault, build, compose, fold};
 use std::alloc::Global;
 use std::test::Fail;
 
-/// A source, whether its system is folded first, the places of two of its edges, and the text of the
+/// A source, whether its system is folded first, the indices of two of its edges, and the text of the
 /// edge that they make, which is empty where they make none.
 #[derive(Clone, Copy)]
 struct Row {

@@ -114,42 +114,42 @@ pub stmt-returns-then-sees : goal.stmt-returns-then-sees
 stmt-returns-then-sees t c =
     lift (tok k.Skip ▸ tok k.Semi) (ref lang.stmt) IsSkip (IsWith (stmt_of (places c.args.scope.now)) stmt_starts c.args.starts.now.items c.begin.new.starts.items) c.skip.result
     (λ e d. stop_name (stop_left_at (sym c.sees.ensures ∙ c.if-sees.true) (d)))
-    (λ a x d e. ((left a), name-of (left_at (sym c.sees.ensures ∙ c.if-sees.true) (d)), record { said = e; begun = begun_first _ _ _ _ c.in_ok-begin.ensures (c.place.ensures ∙ first_read d refl) }))
+    (λ a x d e. ((left a), name-of (left_at (sym c.sees.ensures ∙ c.if-sees.true) (d)), record { said = e; begun = begun_first _ _ _ _ c.in_ok-begin.ensures (c.offset.ensures ∙ first_read d refl) }))
     c.skip.ensures
 
 pub stmt-returns-then-sees-2 : goal.stmt-returns-then-sees-2
 stmt-returns-then-sees-2 t c =
     lift (tok k.Tick ▸ ref lang.expr ▸ tok k.Semi) (ref lang.stmt) (IsTick (places c.args.scope.now)) (IsWith (stmt_of (places c.args.scope.now)) stmt_starts c.args.starts.now.items c.begin.new.starts.items) c.tick.result
     (λ e d. stop_name (stop_right_at (sym c.sees.ensures ∙ c.if-sees.false) (stop_left_at (sym c.sees-else-sees.ensures ∙ c.if-sees-2.true) (d))))
-    (λ a x d e. ((right (left a)), name-of (right_at (sym c.sees.ensures ∙ c.if-sees.false) (left_at (sym c.sees-else-sees.ensures ∙ c.if-sees-2.true) (d))), record { said = e; begun = begun_first _ _ _ _ c.in_ok-begin.ensures (c.place.ensures ∙ first_read d refl) }))
+    (λ a x d e. ((right (left a)), name-of (right_at (sym c.sees.ensures ∙ c.if-sees.false) (left_at (sym c.sees-else-sees.ensures ∙ c.if-sees-2.true) (d))), record { said = e; begun = begun_first _ _ _ _ c.in_ok-begin.ensures (c.offset.ensures ∙ first_read d refl) }))
     c.tick.ensures
 
 pub stmt-returns-then-sees-3 : goal.stmt-returns-then-sees-3
 stmt-returns-then-sees-3 t c =
     lift (tok k.Assume ▸ tok k.LParen ▸ ref lang.cond ▸ tok k.RParen ▸ tok k.Semi) (ref lang.stmt) (IsAssume (places c.args.scope.now)) (IsWith (stmt_of (places c.args.scope.now)) stmt_starts c.args.starts.now.items c.begin.new.starts.items) c.assume.result
     (λ e d. stop_name (stop_right_at (sym c.sees.ensures ∙ c.if-sees.false) (stop_right_at (sym c.sees-else-sees.ensures ∙ c.if-sees-2.false) (stop_left_at (sym c.sees-else-sees-2.ensures ∙ c.if-sees-3.true) (d)))))
-    (λ a x d e. ((right (right (left a))), name-of (right_at (sym c.sees.ensures ∙ c.if-sees.false) (right_at (sym c.sees-else-sees.ensures ∙ c.if-sees-2.false) (left_at (sym c.sees-else-sees-2.ensures ∙ c.if-sees-3.true) (d)))), record { said = e; begun = begun_first _ _ _ _ c.in_ok-begin.ensures (c.place.ensures ∙ first_read d refl) }))
+    (λ a x d e. ((right (right (left a))), name-of (right_at (sym c.sees.ensures ∙ c.if-sees.false) (right_at (sym c.sees-else-sees.ensures ∙ c.if-sees-2.false) (left_at (sym c.sees-else-sees-2.ensures ∙ c.if-sees-3.true) (d)))), record { said = e; begun = begun_first _ _ _ _ c.in_ok-begin.ensures (c.offset.ensures ∙ first_read d refl) }))
     c.assume.ensures
 
 pub stmt-returns-then-sees-4 : goal.stmt-returns-then-sees-4
 stmt-returns-then-sees-4 t c =
     lift (tok k.Name ▸ tok k.Assign ▸ ref lang.assigned ▸ tok k.Semi) (ref lang.stmt) (IsAssign (places c.args.scope.now)) (IsWith (stmt_of (places c.args.scope.now)) stmt_starts c.args.starts.now.items c.begin.new.starts.items) c.assign.result
     (λ e d. stop_name (stop_right_at (sym c.sees.ensures ∙ c.if-sees.false) (stop_right_at (sym c.sees-else-sees.ensures ∙ c.if-sees-2.false) (stop_right_at (sym c.sees-else-sees-2.ensures ∙ c.if-sees-3.false) (stop_left_at (sym c.sees-else-sees-3.ensures ∙ c.if-sees-4.true) (d))))))
-    (λ a x d e. ((right (right (right (left a)))), name-of (right_at (sym c.sees.ensures ∙ c.if-sees.false) (right_at (sym c.sees-else-sees.ensures ∙ c.if-sees-2.false) (right_at (sym c.sees-else-sees-2.ensures ∙ c.if-sees-3.false) (left_at (sym c.sees-else-sees-3.ensures ∙ c.if-sees-4.true) (d))))), record { said = e; begun = begun_first _ _ _ _ c.in_ok-begin.ensures (c.place.ensures ∙ first_read d refl) }))
+    (λ a x d e. ((right (right (right (left a)))), name-of (right_at (sym c.sees.ensures ∙ c.if-sees.false) (right_at (sym c.sees-else-sees.ensures ∙ c.if-sees-2.false) (right_at (sym c.sees-else-sees-2.ensures ∙ c.if-sees-3.false) (left_at (sym c.sees-else-sees-3.ensures ∙ c.if-sees-4.true) (d))))), record { said = e; begun = begun_first _ _ _ _ c.in_ok-begin.ensures (c.offset.ensures ∙ first_read d refl) }))
     c.assign.ensures
 
 pub stmt-returns-then-sees-5 : goal.stmt-returns-then-sees-5
 stmt-returns-then-sees-5 t c =
     lift (tok k.If ▸ tok k.LParen ▸ ref lang.choice ▸ tok k.RParen ▸ ref lang.block ▸ opt (tok k.Else ▸ ref lang.block)) (ref lang.stmt) (IsWith (branch_of (places c.args.scope.now)) branch_starts c.begin.new.starts.items c.branch-alloc.new.starts.items) (IsWith (stmt_of (places c.args.scope.now)) stmt_starts c.args.starts.now.items c.branch-alloc.new.starts.items) c.branch-alloc.result
     (λ e d. stop_name (stop_right_at (sym c.sees.ensures ∙ c.if-sees.false) (stop_right_at (sym c.sees-else-sees.ensures ∙ c.if-sees-2.false) (stop_right_at (sym c.sees-else-sees-2.ensures ∙ c.if-sees-3.false) (stop_right_at (sym c.sees-else-sees-3.ensures ∙ c.if-sees-4.false) (stop_left_at (sym c.sees-else-sees-4.ensures ∙ c.if-sees-5.true) (d)))))))
-    (λ a x d e. ((right (right (right (right (left a))))), name-of (right_at (sym c.sees.ensures ∙ c.if-sees.false) (right_at (sym c.sees-else-sees.ensures ∙ c.if-sees-2.false) (right_at (sym c.sees-else-sees-2.ensures ∙ c.if-sees-3.false) (right_at (sym c.sees-else-sees-3.ensures ∙ c.if-sees-4.false) (left_at (sym c.sees-else-sees-4.ensures ∙ c.if-sees-5.true) (d)))))), record { said = e.said; begun = begun_then _ c.begin.new.starts.items _ _ _ _ c.in_ok-begin.ensures e.begun (c.place.ensures ∙ first_read d refl) }))
+    (λ a x d e. ((right (right (right (right (left a))))), name-of (right_at (sym c.sees.ensures ∙ c.if-sees.false) (right_at (sym c.sees-else-sees.ensures ∙ c.if-sees-2.false) (right_at (sym c.sees-else-sees-2.ensures ∙ c.if-sees-3.false) (right_at (sym c.sees-else-sees-3.ensures ∙ c.if-sees-4.false) (left_at (sym c.sees-else-sees-4.ensures ∙ c.if-sees-5.true) (d)))))), record { said = e.said; begun = begun_then _ c.begin.new.starts.items _ _ _ _ c.in_ok-begin.ensures e.begun (c.offset.ensures ∙ first_read d refl) }))
     c.branch-alloc.ensures
 
 pub stmt-returns-else-sees-5 : goal.stmt-returns-else-sees-5
 stmt-returns-else-sees-5 t c =
     lift (tok k.While ▸ tok k.LParen ▸ ref lang.choice ▸ tok k.RParen ▸ ref lang.block) (ref lang.stmt) (IsWith (loop_of (places c.args.scope.now)) loop_starts c.begin.new.starts.items c.repeat.new.starts.items) (IsWith (stmt_of (places c.args.scope.now)) stmt_starts c.args.starts.now.items c.repeat.new.starts.items) c.repeat.result
     (λ e d. stop_name (stop_right_at (sym c.sees.ensures ∙ c.if-sees.false) (stop_right_at (sym c.sees-else-sees.ensures ∙ c.if-sees-2.false) (stop_right_at (sym c.sees-else-sees-2.ensures ∙ c.if-sees-3.false) (stop_right_at (sym c.sees-else-sees-3.ensures ∙ c.if-sees-4.false) (stop_right_at (sym c.sees-else-sees-4.ensures ∙ c.if-sees-5.false) (d)))))))
-    (λ a x d e. ((right (right (right (right (right a))))), name-of (right_at (sym c.sees.ensures ∙ c.if-sees.false) (right_at (sym c.sees-else-sees.ensures ∙ c.if-sees-2.false) (right_at (sym c.sees-else-sees-2.ensures ∙ c.if-sees-3.false) (right_at (sym c.sees-else-sees-3.ensures ∙ c.if-sees-4.false) (right_at (sym c.sees-else-sees-4.ensures ∙ c.if-sees-5.false) (d)))))), record { said = e.said; begun = begun_then _ c.begin.new.starts.items _ _ _ _ c.in_ok-begin.ensures e.begun (c.place.ensures ∙ first_read d refl) }))
+    (λ a x d e. ((right (right (right (right (right a))))), name-of (right_at (sym c.sees.ensures ∙ c.if-sees.false) (right_at (sym c.sees-else-sees.ensures ∙ c.if-sees-2.false) (right_at (sym c.sees-else-sees-2.ensures ∙ c.if-sees-3.false) (right_at (sym c.sees-else-sees-3.ensures ∙ c.if-sees-4.false) (right_at (sym c.sees-else-sees-4.ensures ∙ c.if-sees-5.false) (d)))))), record { said = e.said; begun = begun_then _ c.begin.new.starts.items _ _ _ _ c.in_ok-begin.ensures e.begun (c.offset.ensures ∙ first_read d refl) }))
     c.repeat.ensures
 
 pub stmt-branch-alloc-requires : goal.stmt-branch-alloc-requires

@@ -49,6 +49,6 @@ pub returns-clause-fault : goal.returns-clause-fault
 returns-clause-fault c =
     let s : Told (params_of c.args.p.now) c.args.text.now c.as_slice.result.now c.in_ok-condition.ensures.0 c.in_ok-condition.condition = record { short = c.requires.short; spelled = subst (Tokens 0 c.args.text.now) (sym c.as_slice.ensures.value) c.in_ok-tokens.ensures.tokens; found = c.in_ok-condition.ensures.1; said = ap (λ z. cond_of (place_in c.args.text.now z) c.in_ok-condition.ensures.0) (sym c.params.ensures) ∙ c.in_ok-condition.ensures.2 } in
     let n : ToldKnown (params_of c.args.p.now) c.args.text.now c.as_slice.result.now c.in_ok-condition.ensures.0 c.in_ok-condition.condition = record { told = s; good = ap (λ z. used_fault c.args.text.now z c.as_slice.result.now) (sym c.params.ensures) ∙ (ap (used_fault c.args.text.now (map string_bytes c.params.result.now)) (c.as_slice.ensures.value ∙ sym c.as_slice-2.ensures.value) ∙ (sym c.first_unknown.ensures ∙ c.in_default.is)) } in
-    let r : Faulty (ConditionOutcome (params_of c.args.p.now) c.args.text.now) (record { kind = form_kind c.in-Err.fault; at = c.first_place.result }) =
-    bad_condition (params_of c.args.p.now) c.args.text.now c.as_slice.result.now c.in_ok-condition.ensures.0 c.in_ok-condition.condition n c.args.p.now.params c.first_place.result (omega (arith, c.requires.program.params, length-take c.args.p.now.params c.args.p.now.names)) (c.first_place.ensures ∙ ap head_at (c.as_slice-in-Err.ensures.value ∙ sym c.as_slice.ensures.value)) c.in-Err.fault c.in-Err.ensures.fault in
-    subst (λ z. Faulty (ConditionOutcome (params_of c.args.p.now) c.args.text.now) (record { kind = z; at = c.first_place.result })) (sym c.form_kind.ensures) r
+    let r : Faulty (ConditionOutcome (params_of c.args.p.now) c.args.text.now) (record { kind = form_kind c.in-Err.fault; at = c.first_offset.result }) =
+    bad_condition (params_of c.args.p.now) c.args.text.now c.as_slice.result.now c.in_ok-condition.ensures.0 c.in_ok-condition.condition n c.args.p.now.params c.first_offset.result (omega (arith, c.requires.program.params, length-take c.args.p.now.params c.args.p.now.names)) (c.first_offset.ensures ∙ ap head_at (c.as_slice-in-Err.ensures.value ∙ sym c.as_slice.ensures.value)) c.in-Err.fault c.in-Err.ensures.fault in
+    subst (λ z. Faulty (ConditionOutcome (params_of c.args.p.now) c.args.text.now) (record { kind = z; at = c.first_offset.result })) (sym c.form_kind.ensures) r

@@ -16,7 +16,7 @@ pub bytes-preserved : goal.bytes-preserved
 bytes-preserved c =
     let p = piece_some c.in_ok-piece.ensures in
     record {
-      place = omega (arith, ap length c.after-rest.ensures, length-drop c.in_ok-piece.piece.len c.bytes.rest.now, c.bytes.invariant.place, p.1);
+      offset = omega (arith, ap length c.after-rest.ensures, length-drop c.in_ok-piece.piece.len c.bytes.rest.now, c.bytes.invariant.offset, p.1);
       found = found_more c.bytes.found.items c.keep.new.found.items c.bytes-test.true c.in_ok-piece.ensures c.after-rest.ensures c.in_ok-keep.ensures c.bytes.invariant.found;
       fails = fails_later c.in_ok-piece.ensures c.after-rest.ensures c.bytes.invariant.fails;
     }

@@ -6,7 +6,7 @@ use Rattle.dc_tokens.proofs.lex.tokens.Given as goal
 
 abbrev pub invariant-bytes : goal.invariant-bytes
 invariant-bytes l = record {
-  place : l.at + length l.rest ≡ length l.bytes;
+  offset : l.at + length l.rest ≡ length l.bytes;
   found : (ts : List Token) → Tokens l.at l.rest ts → Tokens 0 l.bytes (l.found.items ++ ts);
   fails : (f : LexFault) → Fails l.at l.rest f → Fails 0 l.bytes f;
 }

@@ -5,10 +5,10 @@ use Rattle.std.specs.List.{suffix_len}
 abbrev pub is_line_feed : ℕ → Bool
 is_line_feed b = nat_eq b 10
 
--- one more than the line feeds before the place
+-- one more than the line feeds before the offset
 abbrev pub line_at : List ℕ → ℕ → ℕ
-line_at bs place = count_by is_line_feed (take place bs) + 1
+line_at bs offset = count_by is_line_feed (take offset bs) + 1
 
--- one more than the bytes before the place, counted back from it, up to a line feed
+-- one more than the bytes before the offset, counted back from it, up to a line feed
 abbrev pub column_at : List ℕ → ℕ → ℕ
-column_at bs place = suffix_len (λ b. not (is_line_feed b)) (take place bs) + 1
+column_at bs offset = suffix_len (λ b. not (is_line_feed b)) (take offset bs) + 1

@@ -1,6 +1,6 @@
 use Rattle.std.proofs.Common.{◌≡◌, ◌+◌, ◌≤◌}
-use Rattle.dc_tokens.specs.Places.{line_at, column_at}
-use Rattle.dc_tokens.proofs.place.line_col.Given as goal
+use Rattle.dc_tokens.specs.Lines.{line_at, column_at}
+use Rattle.dc_tokens.proofs.lines.line_col.Given as goal
 
 abbrev pub invariant-loop-byte : goal.invariant-loop-byte
 invariant-loop-byte l = record {
