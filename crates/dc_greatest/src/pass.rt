@@ -19,7 +19,7 @@ use crate::bounds::{least_bound, lower};
 use crate::family::{InvFault, LocFamily};
 use crate::lent::Lent;
 use dc_affine::Atom;
-use dc_entail::{Emptiness, Place, empty};
+use dc_entail::{Emptiness, Site, empty};
 use dc_lp::Tableau;
 use dc_moves::{edge_places, first_numbers, with_guard};
 use dc_simplex::SolveFault;
@@ -107,7 +107,7 @@ fn edge_row<T: Tableau>(
             Ok(())
         }
         Err(fault) => Err(InvFault::at(
-            Place::EdgeRow {
+            Site::EdgeRow {
                 side: t.side,
                 edge: k,
                 row,
@@ -187,7 +187,7 @@ pub(crate) fn pass_edge<T: Tableau>(
             edge_rows(alloc, t, at, k, edge, &hyps, target, tableau)
         }
         Err(fault) => Err(InvFault::at(
-            Place::Edge {
+            Site::Edge {
                 side: t.side,
                 edge: k,
             },
@@ -264,7 +264,7 @@ fn case_row<T: Tableau>(
             Ok(())
         }
         Err(fault) => Err(InvFault::at(
-            Place::EntryRow {
+            Site::EntryRow {
                 side: t.side,
                 case: k,
                 row,

@@ -188,7 +188,7 @@ fn rounds<T: Tableau>(alloc: Global, t: &Lent, tableau: &mut T) -> Result<Vec<Lo
 ///
 /// # Errors
 /// `Past128` and `Budget` exactly where the first problem of the rounds that is refused is refused
-/// so, with its place; what is not solved again equals a problem that came to its end. The tableau
+/// so, with its site; what is not solved again equals a problem that came to its end. The tableau
 /// is left in no state that is told.
 pub fn greatest<T: Tableau>(
     alloc: Global,
