@@ -23,8 +23,8 @@ use Rattle.dc_acceptance.proofs.Sums.{is_passes, at_most_passes}
 use Rattle.dc_acceptance.proofs.Items.{items_in_range, items_positive, solution_items, refutation_items}
 
 -- ---- the parts of an atom are its column of the empty problem
-part-site : (n : ℕ) (a : Atom) (i : ℕ) → i < n → part n a i ≡ coefficient_of a i
-part-site n a i l = ap (λ b. cond b a.c0 (coefficient_of a i)) (ne_eqb i n (λ e. omega arith))
+part-place : (n : ℕ) (a : Atom) (i : ℕ) → i < n → part n a i ≡ coefficient_of a i
+part-place n a i l = ap (λ b. cond b a.c0 (coefficient_of a i)) (ne_eqb i n (λ e. omega arith))
 
 part-last : (n : ℕ) (a : Atom) → part n a n ≡ a.c0
 part-last n a = ap (λ b. cond b a.c0 (coefficient_of a n)) (eq-eqb n n refl)
@@ -38,7 +38,7 @@ part-column hyps n i j l = by (eqb i n) refl
 
 module _ (hyps : List Atom) (n : ℕ) where
   place_sum : (x : ℕ → ℚ) (i : ℕ) → i < n → sum_ℚ (length hyps) (λ j. of_ℤ (part n (atom_number hyps j) i) *ℚ x j) ≡ sum_at hyps x i
-  place_sum x i l = sum_ℚ_same (length hyps) _ _ (λ j g. ap (λ c. of_ℤ c *ℚ x j) (part-site n (atom_number hyps j) i l))
+  place_sum x i l = sum_ℚ_same (length hyps) _ _ (λ j g. ap (λ c. of_ℤ c *ℚ x j) (part-place n (atom_number hyps j) i l))
 
   last_sum : (x : ℕ → ℚ) → sum_ℚ (length hyps) (λ j. of_ℤ (part n (atom_number hyps j) n) *ℚ x j) ≡ constant_sum hyps x
   last_sum x = sum_ℚ_same (length hyps) _ _ (λ j g. ap (λ c. of_ℤ c *ℚ x j) (part-last n (atom_number hyps j)))
