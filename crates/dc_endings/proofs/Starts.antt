@@ -109,7 +109,7 @@ total_part f (suc n) i l = by (cases_lt i n) (λ g. total_part f n i g)
     by (inl g) r = let a = r g in omega arith
     by (inr g) r = let q : f i ≡ f n = ap f (let e : i ≡ n = omega arith in e) in omega arith
 
--- one at the place k - c, and 0 elsewhere
+-- one at the index k - c, and 0 elsewhere
 abbrev hit : (k c i : ℕ) → ℕ
 hit k c i = cond (k == c + i) 1 0
 

@@ -29,7 +29,7 @@ use Rattle.dc_greatest.proofs.Shapes.{nowhere}
 use Rattle.dc_greatest.proofs.Setting.{shaped_set, set_here, set_other}
 use Rattle.dc_greatest.proofs.Unchanged.{both_done}
 
--- ---- lists that are cut at a place
+-- ---- lists that are cut at an index
 take_next : {A : Type 0} (xs : List A) (k : ℕ) (d : A) → k < length xs → take (suc k) xs ≡ take k xs ++ slice_index_or xs k d ∷ []
 take_next [] k d l = absurd (omega arith)
 take_next (x ∷ xs) zero d l = refl

@@ -1,24 +1,12 @@
 -- The first refusal of lists of problems that are joined.
 use Rattle.std.specs.Prelude.{ℕ, List, [], ◌∷◌, ◌++◌, Result, Ok, Err, IfOk, IfErr}
-use Rattle.std.proofs.Common.{refl, subst, inl, inr}
-use Rattle.dc_simplex.specs.declared.SolveFault.{SolveFault}
-use Rattle.dc_simplex.specs.declared.SolveFault.TheVariants as solve
-use Rattle.dc_simplex.specs.Limits.{Past, Out, IsAnswer}
-use Rattle.dc_points.specs.Stated.{rational}
-use Rattle.dc_entail.specs.Answers.{IsSolveFault}
+use Rattle.std.proofs.Common.{inl, inr}
+use Rattle.dc_simplex.specs.Limits.{Past, Out}
 use Rattle.dc_entail.specs.Asked.{Asked, AllDone}
 use Rattle.dc_entail.proofs.Refusals.{refusals_join}
 use Rattle.dc_greatest.specs.declared.family.InvFault.{InvFault}
 use Rattle.dc_greatest.specs.declared.family.InvFault.TheVariants.{Past128, Budget, NoMemory}
-use Rattle.dc_greatest.specs.Refusals.{with_site}
 use Rattle.dc_greatest.specs.Answers.{IsFault}
-use Rattle.dc_invariant.specs.Lent.{Only}
-
--- of one problem
-pub fault_with_site : (budget : ℕ) (q : Asked) (f : SolveFault) → IsSolveFault (rational q.problem) budget f → IsFault budget (Only (q ∷ [])) (with_site q.site f)
-fault_with_site budget q (solve.Past128 k) h = (q ∷ [], refl, inl (refl, tt, h))
-fault_with_site budget q (solve.Budget n) h = (q ∷ [], refl, inl (refl, tt, subst (λ m. IsAnswer (rational q.problem) budget (Out m)) h.1 h))
-fault_with_site budget q solve.NoMemory h = tt
 
 -- of other words for the same lists
 pub fault_to : (budget : ℕ) (P Q : List Asked → Type 0) → ((asked : List Asked) → P asked → Q asked) → (f : InvFault) → IsFault budget P f → IsFault budget Q f
