@@ -12,7 +12,7 @@ use Rattle.dc_cert.specs.declared.sparse.Sparse.{Sparse}
 use Rattle.dc_clauses.specs.Lines.{at}
 use Rattle.dc_clauses.specs.Mains.{multipliers, short_column, short_coefficient, short_value}
 use Rattle.dc_mainlines.specs.Paired.{IsPaired}
-use Rattle.dc_mainlines.proofs.Pairs.{behind, behind-is, sum_split}
+use Rattle.dc_mainlines.proofs.Pairs.{behind, behind-is, plus_index, minus_index, sum_split}
 use Rattle.dc_session.specs.Made.{AreItemsOf, unknown_in, multiplier_in}
 use Rattle.dc_acceptance.proofs.Items.{item_at}
 
@@ -32,12 +32,6 @@ pair_sum (suc u) n c x h =
 
     shape : (c d p q y z : ℚ) → d ≡ neg_ℚ c → c *ℚ p +ℚ (d *ℚ q +ℚ (y +ℚ z)) ≡ (c *ℚ (p -ℚ q) +ℚ y) +ℚ z
     shape c d p q y z e = ap (λ w. c *ℚ p +ℚ (w *ℚ q +ℚ (y +ℚ z))) e ∙ turn c p q y z
-
-pub plus_index : (k : ℕ) → behind k 0 ≡ k * 2
-plus_index k = behind-is k 0 ∙ (let e : k * 2 + 0 ≡ k * 2 = omega arith in e)
-
-pub minus_index : (k : ℕ) → behind k 1 ≡ suc (k * 2)
-minus_index k = behind-is k 1 ∙ (let e : k * 2 + 1 ≡ suc (k * 2) = omega arith in e)
 
 module _ (m : Linear ℤ) (u : ℕ) (h : IsPaired m u) where
   pub columns_are : m.columns ≡ behind u (multipliers m u)

@@ -37,8 +37,9 @@ module _ (s : Graph) (printed : List (List Atom)) where
   abbrev pub AreLive : List Bool → Type 0
   AreLive flags = AreFlags flags (map kept_atoms s.edges)
 
--- ---- the problems: case by case how the case shows each printed atom of the entry; then edge by edge whether it is dead and, where it
--- is live, how it shows each printed atom of its target; then whether the exit is dead
+-- ---- the problems: case by case how the case shows each printed atom of the entry; then edge by
+-- edge whether it is dead and, where it is live, how it shows each printed atom of its target; then
+-- whether the exit is dead
 module _ (side : Side) (s : Graph) (printed : List (List Atom)) where
   abbrev pub atom_at_entry : ℕ → List Atom → ℕ → Atom → Asked
   atom_at_entry k case i a =

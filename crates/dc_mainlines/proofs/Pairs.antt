@@ -43,6 +43,12 @@ pub behind-is : (u j : ℕ) → behind u j ≡ u * 2 + j
 behind-is zero j = omega arith
 behind-is (suc u) j = let e = behind-is u j in omega arith
 
+pub plus_index : (k : ℕ) → behind k 0 ≡ k * 2
+plus_index k = behind-is k 0 ∙ (let e : k * 2 + 0 ≡ k * 2 = omega arith in e)
+
+pub minus_index : (k : ℕ) → behind k 1 ≡ suc (k * 2)
+minus_index k = behind-is k 1 ∙ (let e : k * 2 + 1 ≡ suc (k * 2) = omega arith in e)
+
 -- whose an index is: the first or the second of an unknown, or one behind all pairs
 pub data Owner (u j : ℕ) : Type 0 where
   first_of : (k : ℕ) → k < u → j ≡ k * 2 → Owner u j

@@ -20,7 +20,7 @@ use Rattle.dc_clauses.specs.Lines.{at, is, is_at_most}
 use Rattle.dc_clauses.specs.Mains.{multipliers, short_column, short_coefficient, short_value, left_fold, price_fold, right_fold, range_steps, sign_steps, sign_step, equation_test, equation_tests, price_test, price_tests, threshold_tests, ray_tests, fall_tests, claim_steps}
 use Rattle.dc_mainlines.specs.Paired.{IsPaired}
 use Rattle.dc_mainlines.specs.Laws.{StepsShow, IsLeastCost}
-use Rattle.dc_mainlines.proofs.Pairs.{behind, behind-is, Owner, first_of, second_of, after, owner, vector, vector_sign, sum_split, vector_sum}
+use Rattle.dc_mainlines.proofs.Pairs.{behind, behind-is, plus_index, minus_index, Owner, first_of, second_of, after, owner, vector, vector_sign, sum_split, vector_sum}
 use Rattle.dc_mainlines.proofs.Tested.{holds_first, holds_second, numbered, both_parts, is_sum, at_most_sum, equal_sum, positive_sum, same_number, negative_number, positive_items}
 
 -- sums that are the same number
@@ -40,12 +40,6 @@ module _ (m : Linear ℤ) (u : ℕ) (h : IsPaired m u) where
 
   short_times : (k : ℕ) → short_column m u (u + k) ≡ behind u k
   short_times k = ap (λ b. if b then (u + k) * 2 else u + (u + k)) (le-ltb (u + k) u (omega arith)) ∙ (let e = behind-is u k in let g : u + (u + k) ≡ behind u k = omega arith in g)
-
-  plus_index : (k : ℕ) → behind k 0 ≡ k * 2
-  plus_index k = behind-is k 0 ∙ (let e : k * 2 + 0 ≡ k * 2 = omega arith in e)
-
-  minus_index : (k : ℕ) → behind k 1 ≡ suc (k * 2)
-  minus_index k = behind-is k 1 ∙ (let e : k * 2 + 1 ≡ suc (k * 2) = omega arith in e)
 
   -- ---- vectors
   vector_of : Sparse → Sparse → ℕ → ℚ
