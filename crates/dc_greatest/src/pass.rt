@@ -321,7 +321,7 @@ pub(crate) fn pass_case<T: Tableau>(
     requires before { HasNoMore (slice_index_or at.now 0 target.old) target.old }
     ensures taken { OnOk result
         (IsTaken (λ a. Entails (case_at t.now k) (at_start t.now.system.now.params a))
-            t.now.system.now.vars t.now.candidates.now target.old target.new) }
+        t.now.system.now.vars t.now.candidates.now target.old target.new) }
     ensures done { OnOk result (AllDone t.now.budget (case_asked t.now (family t.now at.now) k)) }
     ensures fault { IfErr result
         (IsFault t.now.budget (λ asked. asked ≡ case_asked t.now (family t.now at.now) k)) }

@@ -157,7 +157,7 @@ fn rounds<T: Tableau>(alloc: Global, t: &Lent, tableau: &mut T) -> Result<Vec<Lo
     requires lent { IsLent t.now }
     ensures answer { IfOk result
         (λ v. TellsGreatest t.now.side t.now.system.now t.now.cases.now t.now.live.now
-            t.now.candidates.now t.now.budget v.items) }
+        t.now.candidates.now t.now.budget v.items) }
     ensures fault { IfErr result
         (IsFault t.now.budget
         (RoundsAsk t.now.side
