@@ -1,5 +1,6 @@
 pub mod Passing
 pub mod Sums
+pub mod FittingRuns
 pub mod Small
 pub mod Items
 pub mod Lines

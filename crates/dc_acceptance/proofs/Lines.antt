@@ -1,8 +1,8 @@
 -- Lines and keeps whose vectors show what they should, as tests.
-use Rattle.std.specs.Prelude.{◌≡◌, ℕ, suc, ◌+◌, ◌<◌, Bool, true, false, cond, eqb, ltb, if◌then◌else◌, List, [], ◌∷◌, ◌++◌, map, length, ℤ, pos, negsuc, Some}
+use Rattle.std.specs.Prelude.{◌≡◌, ℕ, suc, ◌+◌, ◌<◌, Bool, true, false, if◌then◌else◌, List, [], ◌∷◌, ◌++◌, map, length, ℤ, pos, negsuc, Some}
 use Rattle.std.specs.List.{range_with_len, list_all}
 use Rattle.std.proofs.Common.{refl, sym, ◌∙◌, ap, subst, arith, add-one}
-use Rattle.std.proofs.lemmas.Bool.{eq-eqb, ne_eqb, lt-ltb, eqb-false, and_from}
+use Rattle.std.proofs.lemmas.Bool.{and_from}
 use Rattle.dc_math.specs.Members.{Among, head, tail}
 use Rattle.dc_math.specs.Rational.{ℚ, of_ℤ, ◌≤ℚ◌, ◌*ℚ◌, *ℚ_comm}
 use Rattle.dc_math.specs.Tests.{is_negative, lt_ℚ-true}
@@ -19,23 +19,10 @@ use Rattle.dc_invariant.specs.Shown.{IsKeep, AreKeeps, IsLine}
 use Rattle.dc_clauses.specs.Steps.{Test}
 use Rattle.dc_clauses.specs.Lines.{at, signs, part, part_sum, column_sum, is, is_at_most, coefficient_parts, dead_parts, live_parts, line_parts, line_in_range, keep_parts}
 use Rattle.dc_clauses.specs.Sides.{paired}
+use Rattle.dc_check.proofs.Shown.{part-place, part-last, part-column}
 use Rattle.dc_acceptance.proofs.Passing.{Passes, AllPass, pass_both, numbered_pass, none_pass}
 use Rattle.dc_acceptance.proofs.Sums.{is_passes, at_most_passes}
 use Rattle.dc_acceptance.proofs.Items.{items_in_range, items_positive, solution_items, refutation_items}
-
--- ---- the parts of an atom are its column of the empty problem
-part-place : (n : ℕ) (a : Atom) (i : ℕ) → i < n → part n a i ≡ coefficient_of a i
-part-place n a i l = ap (λ b. cond b a.c0 (coefficient_of a i)) (ne_eqb i n (λ e. omega arith))
-
-part-last : (n : ℕ) (a : Atom) → part n a n ≡ a.c0
-part-last n a = ap (λ b. cond b a.c0 (coefficient_of a n)) (eq-eqb n n refl)
-
-part-column : (hyps : List Atom) (n i j : ℕ) → i < n + 1 → part n (atom_number hyps j) i ≡ (empty_problem hyps n).coefficient i j
-part-column hyps n i j l = by (eqb i n) refl
-  where
-    by : (b : Bool) → eqb i n ≡ b → cond b (atom_number hyps j).c0 (coefficient_of (atom_number hyps j) i) ≡ cond b (atom_number hyps j).c0 (cond (ltb i n) (coefficient_of (atom_number hyps j) i) (pos 0))
-    by true e = refl
-    by false e = sym (ap (λ b. cond b (coefficient_of (atom_number hyps j) i) (pos 0)) (lt-ltb i n (let d = eqb-false i n e in omega (arith, d))))
 
 module _ (hyps : List Atom) (n : ℕ) where
   place_sum : (x : ℕ → ℚ) (i : ℕ) → i < n → sum_ℚ (length hyps) (λ j. of_ℤ (part n (atom_number hyps j) i) *ℚ x j) ≡ sum_at hyps x i

@@ -12,7 +12,7 @@ use Rattle.dc_cert.specs.declared.sparse.Sparse.{Sparse}
 use Rattle.dc_clauses.specs.Lines.{at}
 use Rattle.dc_clauses.specs.Mains.{multipliers, short_column, short_coefficient, short_value}
 use Rattle.dc_mainlines.specs.Paired.{IsPaired}
-use Rattle.dc_mainlines.proofs.Pairs.{behind, behind-is, sum_split}
+use Rattle.dc_mainlines.proofs.Pairs.{behind, behind-is, plus_index, minus_index, sum_split}
 use Rattle.dc_session.specs.Made.{AreItemsOf, unknown_in, multiplier_in}
 use Rattle.dc_acceptance.proofs.Items.{item_at}
 
@@ -33,12 +33,6 @@ pair_sum (suc u) n c x h =
     shape : (c d p q y z : ℚ) → d ≡ neg_ℚ c → c *ℚ p +ℚ (d *ℚ q +ℚ (y +ℚ z)) ≡ (c *ℚ (p -ℚ q) +ℚ y) +ℚ z
     shape c d p q y z e = ap (λ w. c *ℚ p +ℚ (w *ℚ q +ℚ (y +ℚ z))) e ∙ turn c p q y z
 
-pub plus_place : (k : ℕ) → behind k 0 ≡ k * 2
-plus_place k = behind-is k 0 ∙ (let e : k * 2 + 0 ≡ k * 2 = omega arith in e)
-
-pub minus_place : (k : ℕ) → behind k 1 ≡ suc (k * 2)
-minus_place k = behind-is k 1 ∙ (let e : k * 2 + 1 ≡ suc (k * 2) = omega arith in e)
-
 module _ (m : Linear ℤ) (u : ℕ) (h : IsPaired m u) where
   pub columns_are : m.columns ≡ behind u (multipliers m u)
   columns_are = let l = h.room in let e = behind-is u (multipliers m u) in omega arith
@@ -51,7 +45,7 @@ module _ (m : Linear ℤ) (u : ℕ) (h : IsPaired m u) where
 
   module _ (x : ℕ → ℚ) (unknown lambda : Sparse) (hu : AreItemsOf u (unknown_in x) unknown) (hl : AreItemsOf (multipliers m u) (multiplier_in u x) lambda) where
     pub unknown_at : (k : ℕ) → k < u → at unknown k ≡ x (behind k 0) -ℚ x (behind k 1)
-    unknown_at k l = item_at u (unknown_in x) unknown hu k l ∙ ap₂ (λ i j. x i -ℚ x j) (sym (plus_place k)) (sym (minus_place k))
+    unknown_at k l = item_at u (unknown_in x) unknown hu k l ∙ ap₂ (λ i j. x i -ℚ x j) (sym (plus_index k)) (sym (minus_index k))
 
     pub lambda_at : (k : ℕ) → k < multipliers m u → at lambda k ≡ x (behind u k)
     lambda_at k l = item_at (multipliers m u) (multiplier_in u x) lambda hl k l ∙ ap x (sym (behind-is u k))
@@ -62,9 +56,9 @@ module _ (m : Linear ℤ) (u : ℕ) (h : IsPaired m u) where
     whole_sum c g =
         ap (λ n. sum_ℚ n (λ j. of_ℤ (c j) *ℚ x j)) columns_are
         ∙ pair_sum u (multipliers m u) (λ j. of_ℤ (c j)) x
-        (λ k l. ap (λ j. of_ℤ (c j)) (minus_place k) ∙ ap of_ℤ (g k l) ∙ of_ℤ-neg_ℤ (c (k * 2)) ∙ ap (λ j. neg_ℚ (of_ℤ (c j))) (sym (plus_place k)))
+        (λ k l. ap (λ j. of_ℤ (c j)) (minus_index k) ∙ ap of_ℤ (g k l) ∙ of_ℤ-neg_ℤ (c (k * 2)) ∙ ap (λ j. neg_ℚ (of_ℤ (c j))) (sym (plus_index k)))
         ∙ ap₂ ◌+ℚ◌
-        (sum_ℚ_same u _ _ (λ k l. ap₂ (λ j z. of_ℤ (c j) *ℚ z) (plus_place k) (sym (unknown_at k l))))
+        (sum_ℚ_same u _ _ (λ k l. ap₂ (λ j z. of_ℤ (c j) *ℚ z) (plus_index k) (sym (unknown_at k l))))
         (sum_ℚ_same (multipliers m u) _ _ (λ k l. ap (λ z. of_ℤ (c (behind u k)) *ℚ z) (sym (lambda_at k l))))
 
     value_plus : (k : ℕ) → k < u → short_value m u unknown lambda k ≡ at unknown k

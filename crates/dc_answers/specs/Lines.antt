@@ -6,8 +6,8 @@ use Rattle.dc_syntax.specs.declared.tree.Side.{Side}
 use Rattle.dc_syntax.specs.declared.tree.Side.TheVariants as side
 use Rattle.dc_syntax.specs.declared.tree.Count.{Count}
 use Rattle.dc_syntax.specs.declared.tree.Count.TheVariants as count
-use Rattle.dc_entail.specs.declared.answer.Place.{Place}
-use Rattle.dc_entail.specs.declared.answer.Place.TheVariants as place
+use Rattle.dc_entail.specs.declared.answer.Site.{Site}
+use Rattle.dc_entail.specs.declared.answer.Site.TheVariants as site
 use Rattle.dc_parse.specs.declared.fault.Kind.{Kind}
 use Rattle.dc_parse.specs.declared.fault.Kind.TheVariants as k
 use Rattle.dc_lines.specs.Bytes.{Bytes}
@@ -68,23 +68,23 @@ kind_text k.CoefficientRange = codes "CoefficientRange"
 kind_text k.ConditionTooWide = codes "ConditionTooWide"
 kind_text k.NoMemory = codes "NoMemory"
 
--- ---- the place of a problem
-abbrev pub place_text : Place → Bytes
-place_text (place.When c) = codes "when " ++ decimal c
-place_text (place.EntryRow s c n) =
+-- ---- the site of a problem
+abbrev pub site_text : Site → Bytes
+site_text (site.When c) = codes "when " ++ decimal c
+site_text (site.EntryRow s c n) =
     side_text s ++ (codes " entry case " ++ (decimal c ++ (codes " row " ++ decimal n)))
-place_text (place.Edge s e) = side_text s ++ (codes " edge " ++ decimal e)
-place_text (place.EdgeRow s e n) =
+site_text (site.Edge s e) = side_text s ++ (codes " edge " ++ decimal e)
+site_text (site.EdgeRow s e n) =
     side_text s ++ (codes " edge " ++ (decimal e ++ (codes " row " ++ decimal n)))
-place_text (place.Prune s l n) =
+site_text (site.Prune s l n) =
     side_text s ++ (codes " prune " ++ (decimal l ++ (codes " row " ++ decimal n)))
-place_text (place.KeptEntry s c a) =
+site_text (site.KeptEntry s c a) =
     side_text s ++ (codes " kept entry case " ++ (decimal c ++ (codes " atom " ++ decimal a)))
-place_text (place.KeptEdge s e) = side_text s ++ (codes " kept edge " ++ decimal e)
-place_text (place.KeptAtom s e a) =
+site_text (site.KeptEdge s e) = side_text s ++ (codes " kept edge " ++ decimal e)
+site_text (site.KeptAtom s e a) =
     side_text s ++ (codes " kept edge " ++ (decimal e ++ (codes " atom " ++ decimal a)))
-place_text (place.Exit s) = side_text s ++ codes " exit"
-place_text place.Main = codes "main"
+site_text (site.Exit s) = side_text s ++ codes " exit"
+site_text site.Main = codes "main"
 
 -- ---- where a text is wrong, and what is wrong with it
 abbrev pub line_in : Wrong → ℕ
@@ -122,17 +122,17 @@ large_line (Some s) what n =
     codes "too large: " ++ (side_text s
     ++ (codes " " ++ (count_text what ++ (codes " " ++ (decimal n ++ codes "\n")))))
 
-abbrev pub pivot_line : Place → ℕ → Bytes
+abbrev pub pivot_line : Site → ℕ → Bytes
 pivot_line p n =
-    codes "past 128 bits: " ++ (place_text p ++ (codes " pivot " ++ (decimal n ++ codes "\n")))
+    codes "past 128 bits: " ++ (site_text p ++ (codes " pivot " ++ (decimal n ++ codes "\n")))
 
 abbrev pub fold_line : ℕ → ℕ → Bytes
 fold_line c i =
     codes "past 128 bits: check clause "
     ++ (decimal c ++ (codes " index " ++ (decimal i ++ codes "\n")))
 
-abbrev pub spent_line : Place → Bytes
-spent_line p = codes "pivots spent: " ++ (place_text p ++ codes "\n")
+abbrev pub spent_line : Site → Bytes
+spent_line p = codes "pivots spent: " ++ (site_text p ++ codes "\n")
 
 abbrev pub rejected_line : ℕ → ℕ → Bytes
 rejected_line c i =

@@ -1,5 +1,5 @@
 //! Why a command ends without its answer.
-use dc_entail::Place;
+use dc_entail::Site;
 use dc_parse::ParseFault;
 use dc_syntax::{Count, Side};
 
@@ -40,9 +40,9 @@ pub enum Refusal {
         what: Count,
         count: u64,
     },
-    /// A pivot of the problem at a place doesn't fit 128 bits.
+    /// A pivot of the problem at a site doesn't fit 128 bits.
     PastPivot {
-        place: Place,
+        site: Site,
         pivot: u64,
     },
     /// A sum of the checker doesn't fit 128 bits.
@@ -50,9 +50,9 @@ pub enum Refusal {
         clause: u8,
         index: u64,
     },
-    /// The problem at a place wants more pivots than it may take.
+    /// The problem at a site wants more pivots than it may take.
     Spent {
-        place: Place,
+        site: Site,
     },
     /// A clause of the checker is false.
     Rejected {

@@ -73,13 +73,13 @@ pub signs-nonnegative : (v : Sparse) (k : ℕ) → all_of (signs v) ≡ Some tru
 signs-nonnegative v k e = entry-nonnegative (of_ℤ (pos 0)) v.items k (≤ℚ_refl (of_ℤ (pos 0))) e
 
 -- ---- the parts of an atom are its column of the empty problem
-part-place : (n : ℕ) (a : Atom) (i : ℕ) → i < n → part n a i ≡ coefficient_of a i
+pub part-place : (n : ℕ) (a : Atom) (i : ℕ) → i < n → part n a i ≡ coefficient_of a i
 part-place n a i l = ap (λ b. cond b a.c0 (coefficient_of a i)) (ne_eqb i n (λ e. omega arith))
 
-part-last : (n : ℕ) (a : Atom) → part n a n ≡ a.c0
+pub part-last : (n : ℕ) (a : Atom) → part n a n ≡ a.c0
 part-last n a = ap (λ b. cond b a.c0 (coefficient_of a n)) (eq-eqb n n refl)
 
-part-column : (hyps : List Atom) (n i j : ℕ) → i < n + 1 → part n (atom_number hyps j) i ≡ (empty_problem hyps n).coefficient i j
+pub part-column : (hyps : List Atom) (n i j : ℕ) → i < n + 1 → part n (atom_number hyps j) i ≡ (empty_problem hyps n).coefficient i j
 part-column hyps n i j l = by (eqb i n) refl
   where
     by : (b : Bool) → eqb i n ≡ b → cond b (atom_number hyps j).c0 (coefficient_of (atom_number hyps j) i) ≡ cond b (atom_number hyps j).c0 (cond (ltb i n) (coefficient_of (atom_number hyps j) i) (pos 0))

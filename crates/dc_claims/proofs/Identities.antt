@@ -110,7 +110,7 @@ module _ (p : Pair) (d k : ℕ) (f : Flags) (x : ℕ → ℚ) (t : ℚ) (φ χ :
       let e = slice_get-get_or (equations_of p d k f) i no_equation l in
       subst AtEquation (sym e) (sum_is_row (entry_or_zero p d k (Some _)) x (columns_of p d k f) ∙ get_each Holds (equations_of p d k f) h i _ e)
 
-  -- ---- signs, by place
+  -- ---- signs, by index
   abbrev SignsFrom : ℕ → List Column → Type 0
   SignsFrom j [] = Unit {0}
   SignsFrom j (c ∷ cs) = NonNegative (x j) × SignsFrom (suc j) cs

@@ -15,7 +15,7 @@ use Rattle.dc_claims.specs.Claims.{Potential, Multipliers}
 use Rattle.dc_claims.specs.Laws.{unknown_value, Splits, IsSplit}
 use Rattle.dc_claims.proofs.Totals.{total}
 
--- the sum over columns from a place on
+-- the sum over columns from an index on
 abbrev pub row : (Column → ℤ) → (ℕ → ℚ) → ℕ → List Column → ℚ
 row g x j [] = of_ℤ (pos 0)
 row g x j (c ∷ cs) = of_ℤ (g c) *ℚ x j +ℚ row g x (suc j) cs
@@ -31,7 +31,7 @@ pub sum_is_row : (h : Option Column → ℤ) (x : ℕ → ℚ) (cs : List Column
 sum_is_row h x cs = sum_ℚ_same (length cs) _ _ (λ j l. ap (λ i. of_ℤ (h (slice_get cs j)) *ℚ x i) (let e : j ≡ 0 + j = omega arith in e)) ∙ sum_row h x 0 cs
 
 module _ (x : ℕ → ℚ) (t : ℚ) (φ χ : Potential) (multipliers : Multipliers) where
-  -- each column from a place on belongs to its value
+  -- each column from an index on belongs to its value
   abbrev pub SplitFrom : ℕ → List Column → Type 0
   SplitFrom j [] = Unit {0}
   SplitFrom j (c ∷ cs) = Splits x t φ χ multipliers j c × SplitFrom (suc j) cs

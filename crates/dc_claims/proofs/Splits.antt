@@ -185,9 +185,9 @@ module _ (p : Pair) (d k : ℕ) where
           omega arith
 
 -- ---- where a column stands
-place_from : Column → ℕ → List Column → ℕ
-place_from c a [] = a
-place_from c a (b ∷ cs) = cond (same_column c b) a (place_from c (suc a) cs)
+index_from : Column → ℕ → List Column → ℕ
+index_from c a [] = a
+index_from c a (b ∷ cs) = cond (same_column c b) a (index_from c (suc a) cs)
 
 some_passing : (c : Column) (j : ℕ) (cs : List Column) → slice_get cs j ≡ Some c → 1 ≤ passing (same_column c) cs
 some_passing c j [] e = cc
@@ -197,30 +197,30 @@ some_passing c zero (b ∷ cs) e =
     subst (λ q. 1 ≤ cond q 1 0 + passing (same_column c) cs) (sym h) (omega arith)
 some_passing c (suc j) (b ∷ cs) e = let h = some_passing c j cs e in omega arith
 
-place_found : (c : Column) (a j : ℕ) (cs : List Column) → passing (same_column c) cs ≤ 1 → slice_get cs j ≡ Some c → place_from c a cs ≡ a + j
-unfolding place_from
-place_found c a j [] h e = cc
-place_found c a zero (b ∷ cs) h e =
+index_found : (c : Column) (a j : ℕ) (cs : List Column) → passing (same_column c) cs ≤ 1 → slice_get cs j ≡ Some c → index_from c a cs ≡ a + j
+unfolding index_from
+index_found c a j [] h e = cc
+index_found c a zero (b ∷ cs) h e =
     let s : b ≡ c = cc in
-    ap (λ q. cond q a (place_from c (suc a) cs)) (ap (same_column c) s ∙ same_column_refl c) ∙ (let z : a ≡ a + 0 = omega arith in z)
-place_found c a (suc j) (b ∷ cs) h e = by (same_column c b) (some_passing c j cs e) h (place_found c (suc a) j cs)
+    ap (λ q. cond q a (index_from c (suc a) cs)) (ap (same_column c) s ∙ same_column_refl c) ∙ (let z : a ≡ a + 0 = omega arith in z)
+index_found c a (suc j) (b ∷ cs) h e = by (same_column c b) (some_passing c j cs e) h (index_found c (suc a) j cs)
   where
-    by : (q : Bool) → 1 ≤ passing (same_column c) cs → cond q 1 0 + passing (same_column c) cs ≤ 1 → (passing (same_column c) cs ≤ 1 → slice_get cs j ≡ Some c → place_from c (suc a) cs ≡ suc a + j)
-        → cond q a (place_from c (suc a) cs) ≡ a + suc j
+    by : (q : Bool) → 1 ≤ passing (same_column c) cs → cond q 1 0 + passing (same_column c) cs ≤ 1 → (passing (same_column c) cs ≤ 1 → slice_get cs j ≡ Some c → index_from c (suc a) cs ≡ suc a + j)
+        → cond q a (index_from c (suc a) cs) ≡ a + suc j
     by true s h r = absurd (omega arith)
     by false s h r = r (omega arith) e ∙ (let z : suc a + j ≡ a + suc j = omega arith in z)
 
 -- ---- the values of a vector
 module _ (p : Pair) (d k : ℕ) (f : Flags) (x : ℕ → ℚ) where
-  place : Column → ℕ
-  place c = place_from c 0 (columns_of p d k f)
+  index_of : Column → ℕ
+  index_of c = index_from c 0 (columns_of p d k f)
 
-  place_is : (c : Column) (j : ℕ) → slice_get (columns_of p d k f) j ≡ Some c → place c ≡ j
-  unfolding place
-  place_is c j e = place_found c 0 j (columns_of p d k f) (column_once p d k f c) e ∙ (let z : 0 + j ≡ j = omega arith in z)
+  index_is : (c : Column) (j : ℕ) → slice_get (columns_of p d k f) j ≡ Some c → index_of c ≡ j
+  unfolding index_of
+  index_is c j e = index_found c 0 j (columns_of p d k f) (column_once p d k f c) e ∙ (let z : 0 + j ≡ j = omega arith in z)
 
   unknown_at : Unknown → ℚ
-  unknown_at u = x (place (Plus u)) -ℚ x (suc (place (Plus u)))
+  unknown_at u = x (index_of (Plus u)) -ℚ x (suc (index_of (Plus u)))
 
   bound : ℚ
   bound = unknown_at Bound
@@ -232,7 +232,7 @@ module _ (p : Pair) (d k : ℕ) (f : Flags) (x : ℕ → ℚ) where
   old l i = unknown_at (Coefficient Old l i)
 
   factors : Multipliers
-  factors o i = x (place (Times o i))
+  factors o i = x (index_of (Times o i))
 
   value_is : (u : Unknown) → unknown_value bound new old u ≡ unknown_at u
   unfolding bound new old
@@ -245,10 +245,10 @@ module _ (p : Pair) (d k : ℕ) (f : Flags) (x : ℕ → ℚ) where
   values_split h j (Plus u) e = (
     h j (slice_get_within (columns_of p d k f) j (Plus u) e),
     h (suc j) (slice_get_within (columns_of p d k f) (suc j) (Minus u) (next_column p d k f u j e)),
-    sym (value_is u ∙ ap (λ i. x i -ℚ x (suc i)) (place_is (Plus u) j e)),
+    sym (value_is u ∙ ap (λ i. x i -ℚ x (suc i)) (index_is (Plus u) j e)),
   )
   values_split h j (Minus u) e = tt
-  values_split h j (Times o i) e = sym (ap x (place_is (Times o i) j e))
+  values_split h j (Times o i) e = sym (ap x (index_is (Times o i) j e))
 
 -- ---- the cost
 total_nothing : {A : Type 0} (g : A → ℚ) (xs : List A) → AllByRecursion (λ y. g y ≡ of_ℤ (pos 0)) xs → total g xs ≡ of_ℤ (pos 0)

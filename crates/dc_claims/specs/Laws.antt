@@ -33,7 +33,7 @@ unknown_value t φ χ Bound = t
 unknown_value t φ χ (Coefficient New l i) = φ l i
 unknown_value t φ χ (Coefficient Old l i) = χ l i
 
--- place j of a vector, which belongs to a column: an unknown is the difference of its two places,
+-- number j of a vector, which belongs to a column: an unknown is the difference of its two numbers,
 -- neither below 0
 abbrev pub Splits : (ℕ → ℚ) → ℚ → Potential → Potential → Multipliers → ℕ → Column → Type 0
 Splits x t φ χ multipliers j (Plus u) =

@@ -123,13 +123,13 @@ fn refusal_of(fault: AnalyseFault) -> Refusal
 {
     match fault {
         AnalyseFault::TooLarge { side, what, count } => Refusal::TooLarge { side, what, count },
-        AnalyseFault::Past128(PastAt::Pivot { place, pivot }) => {
-            Refusal::PastPivot { place, pivot }
+        AnalyseFault::Past128(PastAt::Pivot { site, pivot }) => {
+            Refusal::PastPivot { site, pivot }
         }
         AnalyseFault::Past128(PastAt::Fold { clause, index }) => {
             Refusal::PastFold { clause, index }
         }
-        AnalyseFault::Budget { place } => Refusal::Spent { place },
+        AnalyseFault::Budget { site } => Refusal::Spent { site },
         AnalyseFault::NoMemory => Refusal::NoMemory,
     }
 }

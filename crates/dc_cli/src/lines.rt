@@ -1,12 +1,12 @@
 //! The lines of refusals.
 ghost use Rattle.std.specs.Prelude.{◌≡◌, IfOk, MatchOption};
 ghost use Rattle.std.specs.String.{string_bytes};
-ghost use Rattle.dc_answers.specs.Lines.{line_of, place_text, unread_line, bad_line, source_line, large_line, pivot_line, fold_line, spent_line, rejected_line};
+ghost use Rattle.dc_answers.specs.Lines.{line_of, site_text, unread_line, bad_line, source_line, large_line, pivot_line, fold_line, spent_line, rejected_line};
 ghost use Rattle.dc_cli.specs.Reports.{IsBuilt};
 
 use crate::words::{count_word, place_in, side_word, text_word, usage, wrong_word};
 use dc_answers::{Refusal, Text, Wrong};
-use dc_entail::Place;
+use dc_entail::Site;
 use dc_syntax::{Count, Side};
 use std::alloc::{AllocError, Global};
 
@@ -42,9 +42,9 @@ pub fn built_line(alloc: Global, refusal: &Refusal) -> Result<String, AllocError
         Refusal::BadCertificate { line } => bad_certificate(alloc, *line),
         Refusal::Source(text, wrong) => source(alloc, *text, wrong),
         Refusal::TooLarge { side, what, count } => too_large(alloc, *side, *what, *count),
-        Refusal::PastPivot { place, pivot } => past_pivot(alloc, *place, *pivot),
+        Refusal::PastPivot { site, pivot } => past_pivot(alloc, *site, *pivot),
         Refusal::PastFold { clause, index } => past_fold(alloc, *clause, *index),
-        Refusal::Spent { place } => budget_line(alloc, *place),
+        Refusal::Spent { site } => budget_line(alloc, *site),
         Refusal::Rejected { clause, index } => rejection_line(alloc, *clause, *index),
     }
 }
@@ -95,12 +95,12 @@ fn too_large(
     }
 }
 
-fn past_pivot(alloc: Global, place: Place, pivot: u64) -> Result<String, AllocError>
-    ensures { IfOk result (λ text. string_bytes text ≡ pivot_line place pivot) }
+fn past_pivot(alloc: Global, site: Site, pivot: u64) -> Result<String, AllocError>
+    ensures { IfOk result (λ text. string_bytes text ≡ pivot_line site pivot) }
 {
-    let place = place_words(alloc, place)?;
-    let place = place.as_str();
-    let text = format!(in alloc; "past 128 bits: {place} pivot {pivot}\n")?;
+    let site = site_words(alloc, site)?;
+    let site = site.as_str();
+    let text = format!(in alloc; "past 128 bits: {site} pivot {pivot}\n")?;
     Ok(text)
 }
 
@@ -111,12 +111,12 @@ fn past_fold(alloc: Global, clause: u8, index: u64) -> Result<String, AllocError
     Ok(text)
 }
 
-fn budget_line(alloc: Global, place: Place) -> Result<String, AllocError>
-    ensures { IfOk result (λ text. string_bytes text ≡ spent_line place) }
+fn budget_line(alloc: Global, site: Site) -> Result<String, AllocError>
+    ensures { IfOk result (λ text. string_bytes text ≡ spent_line site) }
 {
-    let place = place_words(alloc, place)?;
-    let place = place.as_str();
-    let text = format!(in alloc; "pivots spent: {place}\n")?;
+    let site = site_words(alloc, site)?;
+    let site = site.as_str();
+    let text = format!(in alloc; "pivots spent: {site}\n")?;
     Ok(text)
 }
 
@@ -127,25 +127,25 @@ fn rejection_line(alloc: Global, clause: u8, index: u64) -> Result<String, Alloc
     Ok(text)
 }
 
-/// The place of a problem, as lines spell it.
-fn place_words(alloc: Global, place: Place) -> Result<String, AllocError>
-    ensures { IfOk result (λ text. string_bytes text ≡ place_text place) }
+/// The site of a problem, as lines spell it.
+fn site_words(alloc: Global, site: Site) -> Result<String, AllocError>
+    ensures { IfOk result (λ text. string_bytes text ≡ site_text site) }
 {
-    match place {
-        Place::When { case } => format!(in alloc; "when {case}"),
-        Place::EntryRow { side, case, row } => {
+    match site {
+        Site::When { case } => format!(in alloc; "when {case}"),
+        Site::EntryRow { side, case, row } => {
             let side = side_word(side);
             format!(in alloc; "{side} entry case {case} row {row}")
         }
-        Place::Edge { side, edge } => {
+        Site::Edge { side, edge } => {
             let side = side_word(side);
             format!(in alloc; "{side} edge {edge}")
         }
-        Place::EdgeRow { side, edge, row } => {
+        Site::EdgeRow { side, edge, row } => {
             let side = side_word(side);
             format!(in alloc; "{side} edge {edge} row {row}")
         }
-        Place::Prune {
+        Site::Prune {
             side,
             location,
             row,
@@ -153,22 +153,22 @@ fn place_words(alloc: Global, place: Place) -> Result<String, AllocError>
             let side = side_word(side);
             format!(in alloc; "{side} prune {location} row {row}")
         }
-        Place::KeptEntry { side, case, atom } => {
+        Site::KeptEntry { side, case, atom } => {
             let side = side_word(side);
             format!(in alloc; "{side} kept entry case {case} atom {atom}")
         }
-        Place::KeptEdge { side, edge } => {
+        Site::KeptEdge { side, edge } => {
             let side = side_word(side);
             format!(in alloc; "{side} kept edge {edge}")
         }
-        Place::KeptAtom { side, edge, atom } => {
+        Site::KeptAtom { side, edge, atom } => {
             let side = side_word(side);
             format!(in alloc; "{side} kept edge {edge} atom {atom}")
         }
-        Place::Exit { side } => {
+        Site::Exit { side } => {
             let side = side_word(side);
             format!(in alloc; "{side} exit")
         }
-        Place::Main => String::from_str(alloc, "main"),
+        Site::Main => String::from_str(alloc, "main"),
     }
 }

@@ -1,15 +1,12 @@
 -- Numbers that fit 128 bits, and the vectors of fractions that have them.
-use Rattle.std.specs.Prelude.{◌≡◌, ℕ, zero, suc, ◌<◌, ◌≤◌, Bool, true, false, ◌&&◌, nat_lt, List, [], ◌∷◌, ℤ, pos, neg_ℤ, unsigned_abs}
-use Rattle.std.proofs.Common.{refl, sym, ◌∙◌, ap, arith}
+use Rattle.std.specs.Prelude.{◌≡◌, ℕ, zero, suc, ◌<◌, ◌≤◌, Bool, true, false, ◌&&◌, nat_lt, List, [], ◌∷◌, ℤ, pos, unsigned_abs}
+use Rattle.std.proofs.Common.{refl, ◌∙◌, ap, arith}
 use Rattle.std.proofs.lemmas.Bool.{and_parts}
-use Rattle.std.proofs.lemmas.Int.{ints}
 use Rattle.std.proofs.lemmas.Grind.{common_steps}
-use Rattle.dc_math.specs.Gcd.{gcd}
-use Rattle.dc_math.specs.Rational.{ℚ, Fraction, fraction_of, fraction_neg, of_ℤ, of_ℤ_is, ratio-neg, ◌+ℚ◌, neg_ℚ}
+use Rattle.dc_math.specs.Rational.{ℚ, Fraction, fraction_of, of_ℤ, of_ℤ_is, neg_ℚ}
 use Rattle.dc_math.specs.Lowest.{lowest, ratio-lowest, lowest_reduced, lowest-of_reduced}
-use Rattle.dc_frac.specs.Fits.{IsSmall, is_small, fits, difference_fits}
+use Rattle.dc_frac.specs.Fits.{IsSmall, is_small, fits}
 use Rattle.dc_frac.proofs.ShortWays.{gcd_nat_one}
-use Rattle.dc_frac.proofs.FitLaws.{sum-fits}
 use Rattle.std.specs.Prelude.{◌^◌}
 use Rattle.std.proofs.lemmas.Bool.{ltb-false, and_from}
 use Rattle.dc_frac.specs.declared.Frac.{Frac}
@@ -19,6 +16,7 @@ use Rattle.dc_simplex.specs.Outcomes.{IsVector}
 use Rattle.dc_cert.specs.declared.sparse.Sparse.{Sparse}
 use Rattle.dc_cert.specs.Vectors.{nonzero_from}
 use Rattle.dc_session.specs.Made.{AreItemsOf}
+use Rattle.dc_acceptance.proofs.Small.{neg_size, lowest-neg}
 
 -- both parts are at most 2^127 - 1
 abbrev pub IsNumber : ℚ → Type 0
@@ -34,14 +32,6 @@ small_true z l = by (is_small z) refl
 
 small_is : (z : ℤ) → is_small z ≡ true → IsSmall z
 small_is z e = grind (arith, common_steps)
-
-neg_size : (z : ℤ) → unsigned_abs (neg_ℤ z) ≡ unsigned_abs z
-neg_size z = omega (arith, ints)
-
-lowest-neg : (x : ℚ) → lowest (neg_ℚ x) ≡ fraction_neg (lowest x)
-lowest-neg x =
-    ap (λ y. lowest (neg_ℚ y)) (sym (ratio-lowest x)) ∙ ap lowest (ratio-neg (lowest x))
-    ∙ lowest-of_reduced (fraction_neg (lowest x)) (ap (λ n. gcd n (unsigned_abs (lowest x).den)) (neg_size (lowest x).num) ∙ lowest_reduced x)
 
 pub neg_number : (x : ℚ) → IsNumber x → IsNumber (neg_ℚ x)
 unfolding fits
@@ -60,9 +50,6 @@ zero_number = whole_number (pos 0) (omega arith)
 
 pub one_number : IsNumber (of_ℤ (pos 1))
 one_number = whole_number (pos 1) (omega arith)
-
-pub difference_number : (x y : ℚ) → difference_fits x y ≡ true → IsNumber (x +ℚ neg_ℚ y)
-difference_number x y h = sum-fits x (neg_ℚ y) h
 
 -- ---- a fraction with the value
 pub fraction_is : (x : ℚ) → IsNumber x → (f : Frac) × (value f ≡ x)

@@ -21,8 +21,8 @@ use Rattle.dc_cert.specs.declared.certificate.EdgeCert.{EdgeCert}
 use Rattle.dc_cert.specs.declared.certificate.SideCert.{SideCert}
 use Rattle.dc_cert.specs.Ranges.{is_live}
 use Rattle.dc_cert.specs.Vectors.{entry_of}
-use Rattle.dc_entail.specs.declared.answer.Place.{Place}
-use Rattle.dc_entail.specs.declared.answer.Place.TheVariants as place
+use Rattle.dc_entail.specs.declared.answer.Site.{Site}
+use Rattle.dc_entail.specs.declared.answer.Site.TheVariants as site
 use Rattle.dc_entail.specs.Asked.{Asked, ask, IsDone, AllDone}
 use Rattle.dc_points.specs.Points.{MeetsAt, IsDead, Entails, EntailsFrom}
 use Rattle.dc_points.specs.Stated.{coefficient_of, sup_problem}
@@ -124,7 +124,7 @@ module _ (version : Side) (s : System) (formed : IsWellFormed s) (cases : List (
     start_from : EntailsFrom case start (of_ℤ a.c0)
     start_from = (atoms_are_forms case start a.c0).0 ((inductive 0 a (among_has a (at 0) in_entry)).entry refl case m)
 
-    entry_keep : (q : Place) → IsDone budget (ask q (sup_problem case (at_start s.params a).coefs))
+    entry_keep : (q : Site) → IsDone budget (ask q (sup_problem case (at_start s.params a).coefs))
         → (k : Sparse) × IsKeep case s.params (at_start s.params a).coefs (at_start s.params a) budget k
     entry_keep q d =
         let few : length start ≤ 1024 = (let l = start_long in let p = formed.params_first in let v = formed.few_vars in omega arith) in
@@ -140,7 +140,7 @@ module _ (version : Side) (s : System) (formed : IsWellFormed s) (cases : List (
       → (ks : List Sparse) × side.AreCaseKeeps g printed budget case b ks
   case_keeps k case true m f d =
       keeps_are case s.params (λ a. (at_start s.params a).coefs) (at_start s.params) budget (atom_at_entry version g printed k case) 0 (at 0)
-      (λ j a i e. entry_keep case m (f.0 refl) a i (place.KeptEntry version k j) e) d
+      (λ j a i e. entry_keep case m (f.0 refl) a i (site.KeptEntry version k j) e) d
   case_keeps k case false m f d = ([], tt)
 
   entry_keeps : (k : ℕ) (cs : List (List Atom)) (bs : List Bool) → ((case : List Atom) → Among case cs → Among case cases) → AreFlags bs cs
@@ -252,7 +252,7 @@ module _ (version : Side) (s : System) (formed : IsWellFormed s) (cases : List (
       coefficients_same : (i : ℕ) → i < places → whole_at form i ≡ coefficient_of (atom_after n e a) i
       coefficients_same i l = get_or-take places (row_after_of n e a.coefs).coefs i (pos 0) l
 
-      keep_along : (q : Place) → IsDone budget (ask q (sup_problem kept form)) → (k : Sparse) × IsKeep kept places form (atom_after n e a) budget k
+      keep_along : (q : Site) → IsDone budget (ask q (sup_problem kept form)) → (k : Sparse) × IsKeep kept places form (atom_after n e a) budget k
       keep_along q d =
           let few : length form ≤ 1024 = (let l = form_long in let f = places_few in omega arith) in
           let r = has_keep cut form budget (subst (λ k. AllByRecursion (IsAtom k) cut) (sym form_long) cut_atoms) few form_light (cut_live live) (of_ℤ (atom_after n e a).c0) from_cut
@@ -264,7 +264,7 @@ module _ (version : Side) (s : System) (formed : IsWellFormed s) (cases : List (
         → (ks : List Sparse) × AreKeeps kept places (λ a. form_after n e a.coefs) (atom_after n e) budget (if b then at e.to else []) ks
     edge_keeps k true f d =
         keeps_are kept places (λ a. form_after n e a.coefs) (atom_after n e) budget (atom_along version g printed k e) 0 (at e.to)
-        (λ j a i x. keep_along (f.0 refl) a i (place.KeptAtom version k j) x) d
+        (λ j a i x. keep_along (f.0 refl) a i (site.KeptAtom version k j) x) d
     edge_keeps k false f d = ([], tt)
 
     edge_part : (k : ℕ) (b : Bool) → IsFlag b kept → AllDone budget (edge_asked version g printed k e b) → (x : EdgeCert) × side.IsEdgePart g printed budget e b x

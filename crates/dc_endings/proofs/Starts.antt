@@ -1,9 +1,8 @@
 -- The starting table of a problem whose numbers are small.
-use Rattle.std.specs.Prelude.{◌≡◌, ◌⊎◌, ℕ, zero, suc, ◌+◌, ◌<◌, ◌≤◌, ◌==◌, Bool, true, false, cond, if◌then◌else◌, nat_lt, List, [], ℤ, pos, neg_ℤ, ◌+ℤ◌, unsigned_abs, slice_index_or}
+use Rattle.std.specs.Prelude.{◌≡◌, ◌⊎◌, ℕ, zero, suc, ◌+◌, ◌<◌, ◌≤◌, ◌==◌, Bool, true, false, cond, if◌then◌else◌, nat_lt, ℤ, pos, neg_ℤ, ◌+ℤ◌, unsigned_abs}
 use Rattle.std.proofs.Common.{refl, sym, ◌∙◌, ap, ap₂, subst, arith, inl, inr}
-use Rattle.std.proofs.lemmas.Bool.{cases_lt, and_parts, eqb-true}
+use Rattle.std.proofs.lemmas.Bool.{cases_lt, eqb-true}
 use Rattle.std.proofs.lemmas.Int.{ints}
-use Rattle.std.proofs.lemmas.List.FromFn.{length-map-range_with_len, get_or-map-range_with_len}
 use Rattle.dc_math.specs.Rational.{ℚ, of_ℤ, of_ℤ-+ℤ, ◌+ℚ◌, neg_ℚ, le_ℚ}
 use Rattle.dc_math.specs.RationalField.{rationals}
 use Rattle.dc_math.specs.Order.{of_ℤ-neg_ℤ}
@@ -12,9 +11,8 @@ use Rattle.dc_lp.specs.Linear.{Linear}
 use Rattle.dc_lp.proofs.Tallies.{tally, tally-term, hit, once-from, tally-hit}
 use Rattle.dc_lp.specs.Tables as tables
 use Rattle.dc_lp.specs.Tables.{Table, made}
-use Rattle.dc_lp.specs.Meanings.{all_below, at}
 use Rattle.dc_points.specs.Stated.{rational}
-use Rattle.dc_families.proofs.Lists.{past_none}
+use Rattle.dc_acceptance.proofs.FittingRuns.{AreAll, made_have}
 use Rattle.std.specs.Prelude.{◌^◌}
 use Rattle.std.proofs.lemmas.Bool.{ltb-true}
 use Rattle.dc_endings.proofs.Numbers.{IsNumber, zero_number, whole_number}
@@ -30,39 +28,9 @@ pub record IsLight (m : Linear ℤ) : Type 0 where
   pub right_side : sizes m.right_side m.equations < 2 ^ 127
   pub costs : (j : ℕ) → j < m.columns → IsSmall (m.cost j)
 
--- ---- lists
-pub each_made : {A : Type 0} (P : A → Type 0) (n : ℕ) (f : ℕ → A) (k : ℕ) (d : A) → P d → ((i : ℕ) → i < n → P (f i)) → P (slice_index_or (made n f) k d)
-each_made P n f k d p h = by (cases_lt k n)
-  where
-    by : (k < n) ⊎ (n ≤ k) → P (slice_index_or (made n f) k d)
-    by (inl l) = subst P (sym (get_or-map-range_with_len f 0 n k k d l (omega arith))) (h k l)
-    by (inr l) = subst P (sym (past_none (made n f) k d (let e = length-map-range_with_len f 0 n in omega arith))) p
-
-pub below_at : (n : ℕ) (test : ℕ → Bool) (k : ℕ) → all_below n test ≡ true → k < n → test k ≡ true
-below_at zero test k e l = absurd (omega arith)
-below_at (suc n) test k e l = by (cases_lt k n) (λ g. below_at n test k (and_parts (all_below n test) (test n) e).0 g)
-  where
-    by : (k < n) ⊎ (n ≤ k) → (k < n → test k ≡ true) → test k ≡ true
-    by (inl g) r = r g
-    by (inr g) r = ap test (let q : k ≡ n = omega arith in q) ∙ (and_parts (all_below n test) (test n) e).1
-
 -- ---- tables
 abbrev pub AreNumbers : Table ℚ → Type 0
-AreNumbers t = (i k : ℕ) → IsNumber (at t i k)
-
-abbrev AreWhole : List ℚ → Type 0
-AreWhole xs = (k : ℕ) → IsNumber (slice_index_or xs k (of_ℤ (pos 0)))
-
-nothing_numbers : AreWhole []
-nothing_numbers zero = zero_number
-nothing_numbers (suc k) = zero_number
-
--- a table made by its entries
-pub made_numbers : (real h w : ℕ) (basis : List ℕ) (f : ℕ → ℕ → ℚ) → ((i k : ℕ) → i < h → k < w → IsNumber (f i k))
-    → AreNumbers (record { real = real; rows = made h (λ i. made w (f i)); basis = basis })
-made_numbers real h w basis f g i k =
-    each_made AreWhole h (λ i. made w (f i)) i [] nothing_numbers
-    (λ i l k. each_made IsNumber w (f i) k (of_ℤ (pos 0)) zero_number (λ k m. g i k l m)) k
+AreNumbers = AreAll IsNumber
 
 -- ---- whole numbers of a size
 record IsSized (x : ℚ) (b : ℕ) : Type 0 where
@@ -152,5 +120,5 @@ module _ (m : Linear ℤ) (light : IsLight m) where
   pub start_numbers : AreNumbers (tables.start ℚ rationals p)
   unfolding tables.start
   start_numbers =
-      made_numbers p.columns (p.equations + 2) (p.columns + p.equations + 1) (made p.equations (λ i. p.columns + i)) (tables.start_value ℚ rationals p)
+      made_have IsNumber zero_number (λ x h. h) p.columns (p.equations + 2) (p.columns + p.equations + 1) (made p.equations (λ i. p.columns + i)) (tables.start_value ℚ rationals p)
       (λ i k l g. value_number i k)

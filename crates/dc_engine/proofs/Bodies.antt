@@ -121,7 +121,7 @@ module _ (main : Linear ℤ) (u : ℕ) (paired : IsPaired main u) where
     }
 
 -- ---- a number and its parts
--- the numbers behind a place
+-- the numbers behind an index
 pub numbers_behind : (n : ℕ) (xs : List Frac) (k : ℕ) → numbers (drop n xs) k ≡ numbers xs (n + k)
 numbers_behind zero xs k = ap (numbers xs) (let e : k ≡ 0 + k = omega arith in e)
 numbers_behind (suc n) [] k = refl

@@ -10,8 +10,8 @@ use Rattle.dc_cert.specs.declared.certificate.Liveness.TheVariants.{Dead, Live}
 use Rattle.dc_cert.specs.Ranges.{is_live}
 use Rattle.dc_points.specs.Flags.{IsFlag, AreFlags}
 use Rattle.dc_points.specs.Stated.{empty_problem}
-use Rattle.dc_entail.specs.declared.answer.Place.{Place}
-use Rattle.dc_entail.specs.declared.answer.Place.TheVariants as place
+use Rattle.dc_entail.specs.declared.answer.Site.{Site}
+use Rattle.dc_entail.specs.declared.answer.Site.TheVariants as site
 use Rattle.dc_entail.specs.Asked.{Asked, ask, IsDone, AllDone}
 use Rattle.dc_greatest.specs.declared.family.InvFault.{InvFault}
 use Rattle.dc_greatest.specs.Answers.{IsFault}
@@ -25,7 +25,7 @@ use Rattle.dc_session.specs.Made.{AreCaseLines}
 use Rattle.dc_engine.specs.Parts.{Only, TellsCases}
 
 -- ---- one line
-line_done : (hyps : List Atom) (n budget : ℕ) (l : Liveness) (q : Place) → IsLine hyps n budget l → IsDone budget (ask q (empty_problem hyps n))
+line_done : (hyps : List Atom) (n budget : ℕ) (l : Liveness) (q : Site) → IsLine hyps n budget l → IsDone budget (ask q (empty_problem hyps n))
 line_done hyps n budget (Dead k) q h = line_done_dead hyps n budget k q h
 line_done hyps n budget (Live k) q h = line_done_live hyps n budget k q h
 
@@ -91,7 +91,7 @@ module _ (n budget : ℕ) (cases : List (List Atom)) where
               (subst (λ bs. AreFlags bs (take k cases ++ case ∷ [])) (sym m) (flags_push (map is_live ws) (take k cases) (is_live w) case h.right f));
           done = subst (λ cs. AllDone budget (numbered asked 0 cs)) (sym s)
               (subst (AllDone budget) (sym (numbered_join asked 0 (take k cases) (case ∷ []) ∙ ap (λ j. numbered asked 0 (take k cases) ++ asked j case ∷ []) long))
-              (done_both budget (numbered asked 0 (take k cases)) (asked k case ∷ []) h.done (line_done case n budget w (place.When k) l, tt)));
+              (done_both budget (numbered asked 0 (take k cases)) (asked k case ∷ []) h.done (line_done case n budget w (site.When k) l, tt)));
         }
 
     pub lines_fault : (ws : List Liveness) → AreFirstLines k ws → (x : InvFault) → IsFault budget (Only (asked k case ∷ [])) x → IsFault budget (Only (cases_asked n cases)) x

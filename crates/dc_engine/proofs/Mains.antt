@@ -20,14 +20,14 @@ use Rattle.dc_system.specs.declared.edges.System.{System}
 use Rattle.dc_cert.specs.declared.certificate.Body.{Body}
 use Rattle.dc_cert.specs.Ranges.{is_live}
 use Rattle.dc_points.specs.Stated.{rational}
-use Rattle.dc_entail.specs.declared.answer.Place.TheVariants as place
+use Rattle.dc_entail.specs.declared.answer.Site.TheVariants as site
 use Rattle.dc_entail.specs.Asked.{AllDone, Refuses, IsRefusal as IsRefused}
 use Rattle.dc_entail.proofs.Refusals.{refusals_join, excludes}
 use Rattle.dc_rows.specs.declared.kinds.Candidates.{Candidates}
 use Rattle.dc_families.specs.Graphs.{graph_of}
 use Rattle.dc_families.specs.Families.{Family}
 use Rattle.dc_families.specs.Printed.{Question, ArePrinted}
-use Rattle.dc_greatest.specs.Placed.{placed}
+use Rattle.dc_greatest.specs.Refusals.{with_site}
 use Rattle.dc_greatest.specs.declared.family.InvFault.{InvFault}
 use Rattle.dc_greatest.specs.declared.family.InvFault.TheVariants as problem
 use Rattle.dc_greatest.specs.Answers as greatest
@@ -218,18 +218,18 @@ module _ (t : Lent) (v : Versions) (e : Early) (input : IsInput (input_of t)) (c
     within : main_excess i a ≡ None
     within = sym width_is ∙ z
 
-    refused : (r : Answer) → IsRefused r → IsAnswer (linear_of p) budget r → RefusesAt i place.Main r
+    refused : (r : Answer) → IsRefused r → IsAnswer (linear_of p) budget r → RefusesAt i site.Main r
     refused r s k = record {
       analysis = a;
       right = h.right;
       counts = counts;
       main_counts = λ d. within;
-      refuses = (refusals_join budget (early_asked i a) (main_asked i a ∷ []) place.Main r).1 (inr (h.through, inl (refl, s, subst (λ l. IsAnswer l budget r) stated k)));
+      refuses = (refusals_join budget (early_asked i a) (main_asked i a ∷ []) site.Main r).1 (inr (h.through, inl (refl, s, subst (λ l. IsAnswer l budget r) stated k)));
     }
 
-    pub main_fault : (left : Meaning) (f : SolveFault) → Solves (linear_of p) budget left (Err f) → IsFault i (refused_at (placed place.Main f))
+    pub main_fault : (left : Meaning) (f : SolveFault) → Solves (linear_of p) budget left (Err f) → IsFault i (refused_at (with_site site.Main f))
     main_fault left (solve.Past128 k) s = inr (refused (Past k) tt s)
-    main_fault left (solve.Budget n) s = inr (subst (λ m. RefusesAt i place.Main (Out m)) s.1 (refused (Out n) tt s))
+    main_fault left (solve.Budget n) s = inr (subst (λ m. RefusesAt i site.Main (Out m)) s.1 (refused (Out n) tt s))
     main_fault left solve.NoMemory s = inl refl
 
     -- ---- the outcome

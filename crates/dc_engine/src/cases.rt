@@ -13,7 +13,7 @@ ghost use Rattle.dc_engine.specs.Parts.{Only, TellsCases, input_of};
 use crate::lent::Lent;
 use dc_affine::Atom;
 use dc_cert::{Liveness, sparse_of};
-use dc_entail::{Emptiness, Place, empty};
+use dc_entail::{Emptiness, Site, empty};
 use dc_greatest::InvFault;
 use dc_lp::Tableau;
 use sqlite_items::Items;
@@ -34,11 +34,11 @@ fn case_line<T: Tableau>(
     ensures fault { IfErr result
         (IsFault budget (Only (case_asked params number case.now ∷ []))) }
 {
-    let place = Place::When { case: number };
+    let site = Site::When { case: number };
     match empty(alloc, case, params, tableau, budget) {
         Ok(Emptiness::Dead { mult }) => Ok(Liveness::Dead(sparse_of(alloc, &mult)?)),
         Ok(Emptiness::Live { y }) => Ok(Liveness::Live(sparse_of(alloc, &y)?)),
-        Err(fault) => Err(InvFault::at(place, fault)),
+        Err(fault) => Err(InvFault::at(site, fault)),
     }
 }
 

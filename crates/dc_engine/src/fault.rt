@@ -57,10 +57,10 @@ pub(crate) fn of_problem(fault: InvFault) -> AnalyseFault
     ensures { result ≡ refused_at fault }
 {
     match fault {
-        InvFault::Past128 { place, pivot } => {
-            AnalyseFault::Past128(PastAt::Pivot { place, pivot })
+        InvFault::Past128 { site, pivot } => {
+            AnalyseFault::Past128(PastAt::Pivot { site, pivot })
         }
-        InvFault::Budget { place } => AnalyseFault::Budget { place },
+        InvFault::Budget { site } => AnalyseFault::Budget { site },
         InvFault::NoMemory => AnalyseFault::NoMemory,
     }
 }

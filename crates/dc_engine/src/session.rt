@@ -14,7 +14,7 @@ use crate::versions::both_versions;
 use dc_affine::Atom;
 use dc_cert::{Certificate, Settings};
 use dc_check::check;
-use dc_entail::Place;
+use dc_entail::Site;
 use dc_greatest::InvFault;
 use dc_lp::Tableau;
 use dc_session::AnalyseFault;
@@ -46,7 +46,7 @@ fn make_certificate<T: Tableau>(
     let count = unknown_count(&v.new.system, &v.old.system, t.settings.degree);
     let outcome = match solve(alloc, &problem, tableau, t.settings.pivots) {
         Ok(outcome) => outcome,
-        Err(fault) => return Err(of_problem(InvFault::at(Place::Main, fault))),
+        Err(fault) => return Err(of_problem(InvFault::at(Site::Main, fault))),
     };
     let Ok(body) = body_of(alloc, &outcome, count) else {
         return Err(AnalyseFault::NoMemory);

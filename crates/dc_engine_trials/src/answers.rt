@@ -1,7 +1,7 @@
 //! What an analysis answers: a claim, or the first refusal.
 use crate::rows::{EMPTY, LOOP_1, LOOP_2, LOOP_I, Row, SKIP, analyse_row, row_of};
 use dc_cert::Claim;
-use dc_entail::Place;
+use dc_entail::Site;
 use dc_frac::Frac;
 use dc_session::{AnalyseFault, PastAt};
 use dc_syntax::{Count, Side};
@@ -17,7 +17,7 @@ enum Answer {
     TooLarge(Option<Side>, Count, u64),
     PastPivot,
     PastFold,
-    Budget(Place),
+    Budget(Site),
 }
 
 fn claim_answer(claim: Claim) -> Answer {
@@ -36,7 +36,7 @@ fn outcome(alloc: Global, row: &Row) -> Result<Answer, Fail> {
         }
         Err(AnalyseFault::Past128(PastAt::Pivot { .. })) => Ok(Answer::PastPivot),
         Err(AnalyseFault::Past128(PastAt::Fold { .. })) => Ok(Answer::PastFold),
-        Err(AnalyseFault::Budget { place }) => Ok(Answer::Budget(place)),
+        Err(AnalyseFault::Budget { site }) => Ok(Answer::Budget(site)),
         Err(AnalyseFault::NoMemory) => Err(Fail::from("memory")),
     }
 }
@@ -217,14 +217,14 @@ skip; skip; skip; skip; skip; skip; skip; skip; skip; skip; skip; skip; skip; sk
 #[test]
 fn the_first_refusal_is_told(rt: HostRuntime) -> Result<(), Fail> {
     let alloc = rt.alloc();
-    let edge = Place::Edge {
+    let edge = Site::Edge {
         side: Side::New,
         edge: 0,
     };
     let huge = "proc f(n) { var x, y; x = 2147483647*n; y = 2147483647*x; tick 2147483647*y*y; }";
     let table = [
         (within(1), Answer::Budget(edge)),
-        (within(23), Answer::Budget(Place::Main)),
+        (within(23), Answer::Budget(Site::Main)),
         (within(24), Answer::Threshold(100, 1)),
         (
             row_of(huge, SKIP, "n == 2147483647", 2, 2),

@@ -5,16 +5,16 @@ use Rattle.dc_lp.specs.Linear.{Linear}
 use Rattle.dc_lp.specs.Tables.{Table}
 use Rattle.dc_pivots.specs.declared.Ending.{Ending}
 use Rattle.dc_simplex.specs.Limits.{Answer, Done, Past, Out, IsAnswer}
-use Rattle.dc_entail.specs.declared.answer.Place.{Place}
+use Rattle.dc_entail.specs.declared.answer.Site.{Site}
 use Rattle.dc_points.specs.Stated.{rational}
 
--- a problem, and the place at which it is asked
+-- a problem, and the site at which it is asked
 pub record Asked : Type 0 where
-  pub place : Place
+  pub site : Site
   pub problem : Linear ℤ
 
-abbrev pub ask : Place → Linear ℤ → Asked
-ask q p = record { place = q; problem = p }
+abbrev pub ask : Site → Linear ℤ → Asked
+ask q p = record { site = q; problem = p }
 
 -- the answer of its run within a budget of pivots
 abbrev pub Answers : ℕ → Asked → Answer → Type 0
@@ -33,31 +33,31 @@ IsRefusal (Done n e t) = ⊥
 IsRefusal (Past k) = Unit {0}
 IsRefusal (Out n) = Unit {0}
 
--- the first of the problems that doesn't come to its end is asked at this place, and this is its answer
-abbrev pub Refuses : ℕ → List Asked → Place → Answer → Type 0
-Refuses budget [] place a = ⊥
-Refuses budget (q ∷ qs) place a =
-    ((place ≡ q.place) × IsRefusal a × Answers budget q a)
-    ⊎ (IsDone budget q × Refuses budget qs place a)
+-- the first of the problems that doesn't come to its end is asked at this site, and this is its answer
+abbrev pub Refuses : ℕ → List Asked → Site → Answer → Type 0
+Refuses budget [] site a = ⊥
+Refuses budget (q ∷ qs) site a =
+    ((site ≡ q.site) × IsRefusal a × Answers budget q a)
+    ⊎ (IsDone budget q × Refuses budget qs site a)
 
 -- the first refusal of two lists joined is that of the first one, or that of the second one where
 -- the first one has none
 abbrev pub RefusalsJoin : Type 0
-RefusalsJoin = (budget : ℕ) (ps qs : List Asked) (place : Place) (a : Answer)
-    → Refuses budget (ps ++ qs) place a
-    ↔ (Refuses budget ps place a ⊎ (AllDone budget ps × Refuses budget qs place a))
+RefusalsJoin = (budget : ℕ) (ps qs : List Asked) (site : Site) (a : Answer)
+    → Refuses budget (ps ++ qs) site a
+    ↔ (Refuses budget ps site a ⊎ (AllDone budget ps × Refuses budget qs site a))
 
 -- and no list has both a first refusal and an end for each
 abbrev pub RefusalExcludes : Type 0
 RefusalExcludes =
-    (budget : ℕ) (ps : List Asked) (place : Place) (a : Answer) → Refuses budget ps place a
+    (budget : ℕ) (ps : List Asked) (site : Site) (a : Answer) → Refuses budget ps site a
     → ¬ AllDone budget ps
 
 -- each list has one or the other
 pub record HasRefusal (budget : ℕ) (ps : List Asked) : Type 0 where
-  pub place : Place
+  pub site : Site
   pub answer : Answer
-  pub refuses : Refuses budget ps place answer
+  pub refuses : Refuses budget ps site answer
 
 abbrev pub DoneOrRefused : Type 0
 DoneOrRefused = (budget : ℕ) (ps : List Asked) → AllDone budget ps ⊎ HasRefusal budget ps

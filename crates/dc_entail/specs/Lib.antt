@@ -2,4 +2,4 @@ pub mod Answers
 pub mod Asked
 pub mod Columns
 pub mod Equal
-pub mod Places
+pub mod Sites

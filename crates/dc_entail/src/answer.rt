@@ -1,6 +1,6 @@
-//! Answers, and the places of an analysis at which problems are asked.
+//! Answers, and the sites of an analysis at which problems are asked.
 ghost use Rattle.std.specs.Prelude.{◌≡◌, Some};
-ghost use Rattle.dc_entail.specs.Places.{side_text, place_text};
+ghost use Rattle.dc_entail.specs.Sites.{side_text, site_text};
 
 use dc_frac::Frac;
 use dc_syntax::Side;
@@ -31,7 +31,7 @@ pub enum Sup {
 /// It is written as the words of its line: `when 0`, `new edge 2 row 1`, `old kept entry case 0
 /// atom 3`, `main`.
 #[derive(Clone, Copy, Debug, PartialEq)]
-pub enum Place {
+pub enum Site {
     /// Whether a case of the condition is dead.
     When {
         case: usize,
@@ -94,25 +94,25 @@ fn side_word(side: Side) -> &'static str
     }
 }
 
-impl fmt::Display for Place {
-    ghost output = { λ place. Some (place_text place) };
+impl fmt::Display for Site {
+    ghost output = { λ site. Some (site_text site) };
 
     fn fmt<W: fmt::Write>(&self, f: &mut fmt::Formatter<W>) -> fmt::Result {
         match *self {
-            Place::When { case } => write!(f, "when {case}"),
-            Place::EntryRow { side, case, row } => {
+            Site::When { case } => write!(f, "when {case}"),
+            Site::EntryRow { side, case, row } => {
                 let side = side_word(side);
                 write!(f, "{side} entry case {case} row {row}")
             }
-            Place::Edge { side, edge } => {
+            Site::Edge { side, edge } => {
                 let side = side_word(side);
                 write!(f, "{side} edge {edge}")
             }
-            Place::EdgeRow { side, edge, row } => {
+            Site::EdgeRow { side, edge, row } => {
                 let side = side_word(side);
                 write!(f, "{side} edge {edge} row {row}")
             }
-            Place::Prune {
+            Site::Prune {
                 side,
                 location,
                 row,
@@ -120,23 +120,23 @@ impl fmt::Display for Place {
                 let side = side_word(side);
                 write!(f, "{side} prune {location} row {row}")
             }
-            Place::KeptEntry { side, case, atom } => {
+            Site::KeptEntry { side, case, atom } => {
                 let side = side_word(side);
                 write!(f, "{side} kept entry case {case} atom {atom}")
             }
-            Place::KeptEdge { side, edge } => {
+            Site::KeptEdge { side, edge } => {
                 let side = side_word(side);
                 write!(f, "{side} kept edge {edge}")
             }
-            Place::KeptAtom { side, edge, atom } => {
+            Site::KeptAtom { side, edge, atom } => {
                 let side = side_word(side);
                 write!(f, "{side} kept edge {edge} atom {atom}")
             }
-            Place::Exit { side } => {
+            Site::Exit { side } => {
                 let side = side_word(side);
                 write!(f, "{side} exit")
             }
-            Place::Main => f.write_str("main"),
+            Site::Main => f.write_str("main"),
         }
     }
 }

@@ -8,8 +8,8 @@ mod bounds;
 #[cfg(test)]
 mod emptiness;
 #[cfg(test)]
-mod places;
-#[cfg(test)]
 mod problems;
+#[cfg(test)]
+mod sites;
 #[cfg(test)]
 mod tables;

@@ -11,9 +11,9 @@ use Rattle.dc_handelman.specs.Products.{choice_value, atom_at}
 use Rattle.dc_folding.proofs.Products.{exactly, products, by_each}
 
 -- the values of atoms, as functions of points that are read as lists
-module _ {X : Type 0} (place : X → List ℤ) where
+module _ {X : Type 0} (state : X → List ℤ) where
   abbrev pub atom_values : List Atom → List (X → ℚ)
-  atom_values hyps = map (λ a x. of_ℤ (atom_value a (place x))) hyps
+  atom_values hyps = map (λ a x. of_ℤ (atom_value a (state x))) hyps
 
   values-++ : (fs gs : List (X → ℚ)) (x : X) → values_at (fs ++ gs) x ≡ values_at fs x ++ values_at gs x
   values-++ [] gs x = refl
@@ -21,10 +21,10 @@ module _ {X : Type 0} (place : X → List ℤ) where
 
   module _ (hyps : List Atom) (x : X) where
     abbrev choice : Choice → ℚ
-    choice c = of_ℤ (choice_value hyps c (place x))
+    choice c = of_ℤ (choice_value hyps c (state x))
 
     -- each product times one factor
-    times_first : (i : ℕ) (f : X → ℚ) → f x ≡ of_ℤ (atom_value (atom_at hyps i) (place x)) → (fs : List (X → ℚ)) (cs : List Choice) → values_at fs x ≡ map choice cs
+    times_first : (i : ℕ) (f : X → ℚ) → f x ≡ of_ℤ (atom_value (atom_at hyps i) (state x)) → (fs : List (X → ℚ)) (cs : List Choice) → values_at fs x ≡ map choice cs
         → values_at (map (by_each f) fs) x ≡ map choice (map (λ c. i ∷ c) cs)
     times_first i f e [] [] h = refl
     times_first i f e [] (c ∷ cs) h = absurd (let r : [] ≡ choice c ∷ map choice cs = h in cc)
@@ -34,7 +34,7 @@ module _ {X : Type 0} (place : X → List ℤ) where
         let q : values_at fs x ≡ map choice cs = cc in
         ap₂ ◌∷◌ (ap₂ ◌*ℚ◌ e p ∙ sym (of_ℤ-*ℤ _ _)) (times_first i f e fs cs q)
 
-    -- the atoms from a place on
+    -- the atoms from an index on
     abbrev IsFrom : ℕ → List Atom → Type 0
     IsFrom low rest = (i : ℕ) → i < length rest → atom_at hyps (low + i) ≡ atom_at rest i
 
@@ -49,9 +49,9 @@ module _ {X : Type 0} (place : X → List ℤ) where
     of_size_values [] low (suc k) h = refl
     of_size_values (a ∷ rest) low zero h = refl
     of_size_values (a ∷ rest) low (suc k) h =
-        values-++ (map (by_each (λ x. of_ℤ (atom_value a (place x)))) (exactly (atom_values (a ∷ rest)) k)) (exactly (atom_values rest) (suc k)) x
+        values-++ (map (by_each (λ x. of_ℤ (atom_value a (state x)))) (exactly (atom_values (a ∷ rest)) k)) (exactly (atom_values rest) (suc k)) x
         ∙ ap₂ ◌++◌
-        (times_first low (λ x. of_ℤ (atom_value a (place x))) (ap (λ b. of_ℤ (atom_value b (place x))) (sym (from_first low a rest h))) _ _ (of_size_values (a ∷ rest) low k h))
+        (times_first low (λ x. of_ℤ (atom_value a (state x))) (ap (λ b. of_ℤ (atom_value b (state x))) (sym (from_first low a rest h))) _ _ (of_size_values (a ∷ rest) low k h))
         (of_size_values rest (suc low) (suc k) (from_rest low a rest h))
         ∙ sym (map-append choice (map (λ c. low ∷ c) (of_size (length (a ∷ rest)) low k)) (of_size (length rest) (suc low) (suc k)))
 

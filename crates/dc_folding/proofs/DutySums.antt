@@ -23,16 +23,16 @@ use Rattle.dc_folding.proofs.Products.{products}
 use Rattle.dc_folding.proofs.Choices.{atom_values, product_values_are}
 use Rattle.dc_folding.proofs.Entailed.{each_made}
 
--- a point of n places
-abbrev pub Placed : ℕ → Type 0
-Placed n = (x : List ℤ) × (length x ≡ n)
+-- a state of n places
+abbrev pub StateOf : ℕ → Type 0
+StateOf n = (x : List ℤ) × (length x ≡ n)
 
-abbrev pub place : (n : ℕ) → Placed n → List ℤ
-place n x = x.0
+abbrev pub state : (n : ℕ) → StateOf n → List ℤ
+state n x = x.0
 
 -- at each of them the value is a sum of products of at most k of the atoms
 abbrev pub IsSum : ℕ → List Atom → ℕ → (List ℤ → ℚ) → Type 0
-IsSum n hyps k g = Cone (products (atom_values (place n) hyps) k) (λ x. g x.0)
+IsSum n hyps k g = Cone (products (atom_values (state n) hyps) k) (λ x. g x.0)
 
 -- ---- factors by index
 each_at : (xs : List ℚ) (i : ℕ) → AllByRecursion NonNegative xs → NonNegative (at xs i)
@@ -63,7 +63,7 @@ module _ (p : Pair) (d k : ℕ) (t : ℚ) (φ χ : Potential) where
   met_sum multipliers o m = record {
     by = made (products_count p k o) (multipliers o);
     not_negative = each_made (multipliers o) 0 (products_count p k o) (λ i l. m.signs i (omega arith));
-    is = λ x. ap (λ vs. dot vs (made (products_count p k o) (multipliers o))) (product_values_are (place (places_of p o)) (atoms_of p o) x k) ∙ dot_comm _ _ ∙ sym (m.identity x.0 x.1);
+    is = λ x. ap (λ vs. dot vs (made (products_count p k o) (multipliers o))) (product_values_are (state (places_of p o)) (atoms_of p o) x k) ∙ dot_comm _ _ ∙ sym (m.identity x.0 x.1);
   }
 
   -- ---- multipliers for each duty
@@ -100,7 +100,7 @@ module _ (p : Pair) (d k : ℕ) (t : ℚ) (φ χ : Potential) where
       signs = λ i l. subst NonNegative (sym (e i)) (each_at c.by i c.not_negative);
       identity = λ x l.
           sym (dot_made (products_count p k o) 0 (multipliers o) (product_values p k o x) c.by (let q = length-map (choices_of (length (atoms_of p o)) k) (λ c. of_ℤ (choice_value (atoms_of p o) c x)) in omega arith) (λ i. let g : 0 + i ≡ i = omega arith in ap (multipliers o) g ∙ e i)
-          ∙ dot_comm c.by _ ∙ ap (λ vs. dot vs c.by) (sym (product_values_are (place (places_of p o)) (atoms_of p o) (x, l) k)) ∙ c.is (x, l));
+          ∙ dot_comm c.by _ ∙ ap (λ vs. dot vs c.by) (sym (product_values_are (state (places_of p o)) (atoms_of p o) (x, l) k)) ∙ c.is (x, l));
     }
 
     by_decision : (o : Duty) (b : IsOwed p o ⊎ (¬ IsOwed p o)) → decide_owed o ≡ b → IsOwed p o → IsMet p d k t φ χ chosen o

@@ -32,12 +32,12 @@ pub each_made : (f : ℕ → ℚ) (a n : ℕ) → ((i : ℕ) → i < a + n → N
 each_made f a zero h = tt
 each_made f a (suc n) h = (h a (omega arith), each_made f (a + 1) n (λ i l. h i (omega arith)))
 
-module _ {X : Type 0} (place : X → List ℤ) (p : X) where
+module _ {X : Type 0} (state : X → List ℤ) (p : X) where
   abbrev value_of : Atom → ℚ
-  value_of a = of_ℤ (atom_value a (place p))
+  value_of a = of_ℤ (atom_value a (state p))
 
   -- the values of the atoms with factors, by index
-  dot_values : (hyps : List Atom) (x : ℕ → ℚ) (a : ℕ) → dot (values_at (atom_values place hyps) p) (map x (range_with_len a (length hyps))) ≡ sum_ℚ (length hyps) (λ j. value_of (atom_number hyps j) *ℚ x (a + j))
+  dot_values : (hyps : List Atom) (x : ℕ → ℚ) (a : ℕ) → dot (values_at (atom_values state hyps) p) (map x (range_with_len a (length hyps))) ≡ sum_ℚ (length hyps) (λ j. value_of (atom_number hyps j) *ℚ x (a + j))
   dot_values [] x a = sym (sum_ℚ_none _)
   dot_values (h ∷ hyps) x a =
       let e : a + 0 ≡ a = omega arith in
@@ -46,11 +46,11 @@ module _ {X : Type 0} (place : X → List ℤ) (p : X) where
       ∙ sym (sum_ℚ_first (length hyps) (λ j. value_of (atom_number (h ∷ hyps) j) *ℚ x (a + j)))
 
   abbrev number : ℕ → ℚ
-  number i = of_ℤ (slice_index_or (place p) i (pos 0))
+  number i = of_ℤ (slice_index_or (state p) i (pos 0))
 
   -- one atom, by its places
   by_places : (n : ℕ) (a : Atom) → length a.coefs ≤ n → value_of a ≡ of_ℤ a.c0 +ℚ sum_ℚ n (λ i. number i *ℚ of_ℤ (coefficient_of a i))
-  by_places n a h = of_ℤ-+ℤ a.c0 (dot_ℤ a.coefs (place p)) ∙ ap (λ y. of_ℤ a.c0 +ℚ y) (dot-by_places n a.coefs (place p) h)
+  by_places n a h = of_ℤ-+ℤ a.c0 (dot_ℤ a.coefs (state p)) ∙ ap (λ y. of_ℤ a.c0 +ℚ y) (dot-by_places n a.coefs (state p) h)
 
   over_at : (n : ℕ) (hyps : List Atom) (j : ℕ) → AreOver n hyps → length (atom_number hyps j).coefs ≤ n
   over_at n [] j h = omega arith
@@ -80,7 +80,7 @@ module _ {X : Type 0} (place : X → List ℤ) (p : X) where
         ∙ sum_ℚ_swap m n (λ j i. (number i *ℚ entry j i) *ℚ x j)
         ∙ sum_ℚ_same n _ _ (λ i l. sum_ℚ_same m _ _ (λ j k. turn (number i) (entry j i) (x j)) ∙ sum_ℚ-*ℚ m (λ j. entry j i *ℚ x j) (number i)))
 
-    shown_value : (a : Atom) → length a.coefs ≤ n → ShowsAtom hyps n a x → of_ℤ (pos 1) *ℚ (of_ℤ a.c0 -ℚ constant_sum hyps x) +ℚ dot (values_at (atom_values place hyps) p) (made m x) ≡ value_of a
+    shown_value : (a : Atom) → length a.coefs ≤ n → ShowsAtom hyps n a x → of_ℤ (pos 1) *ℚ (of_ℤ a.c0 -ℚ constant_sum hyps x) +ℚ dot (values_at (atom_values state hyps) p) (made m x) ≡ value_of a
     shown_value a ia s =
         ap (λ y. of_ℤ (pos 1) *ℚ (of_ℤ a.c0 -ℚ constant_sum hyps x) +ℚ y)
         (dot_values hyps x 0
@@ -97,8 +97,8 @@ module _ {X : Type 0} (place : X → List ℤ) (p : X) where
         gather c s y = ring (c ∷ s ∷ y ∷ []) (λ ρ i j k. simp (i, j, k, read_nat ρ, reads) (same_form _ _ _ refl))
 
 -- ---- Farkas' lemma, at each point of any kind
-pub entailed_sum : {X : Type 0} (place : X → List ℤ) (hyps : List Atom) (a : Atom) → ¬ IsDead hyps → Entails hyps a → Cone (one ∷ atom_values place hyps) (λ x. of_ℤ (atom_value a (place x)))
-entailed_sum place hyps a live h =
+pub entailed_sum : {X : Type 0} (state : X → List ℤ) (hyps : List Atom) (a : Atom) → ¬ IsDead hyps → Entails hyps a → Cone (one ∷ atom_values state hyps) (λ x. of_ℤ (atom_value a (state x)))
+entailed_sum state hyps a live h =
     let n = widest (a ∷ hyps) in
     let o : AreOver n hyps = all_over n hyps (omega arith) in
     let ia : length a.coefs ≤ n = omega arith in
@@ -106,5 +106,5 @@ entailed_sum place hyps a live h =
     record {
       by = (of_ℤ a.c0 -ℚ constant_sum hyps s.0) ∷ made (length hyps) s.0;
       not_negative = (≤ℚ-sub _ _ s.1.constant, each_made s.0 0 (length hyps) (λ i l. s.1.signs i (omega arith)));
-      is = λ x. shown_value place x n hyps s.0 o a ia s.1;
+      is = λ x. shown_value state x n hyps s.0 o a ia s.1;
     }

@@ -28,7 +28,7 @@ use Rattle.dc_claims.specs.Duties.{Pair, no_edge, edge_at, IsOwed}
 use Rattle.dc_claims.specs.Claims.{Potential, potential_value, fall, price, IsCertified}
 use Rattle.dc_folding.proofs.Products.{products}
 use Rattle.dc_folding.proofs.Choices.{atom_values}
-use Rattle.dc_folding.proofs.DutySums.{place, IsSum, IsSumAt, met_sum, sums_certify}
+use Rattle.dc_folding.proofs.DutySums.{state, IsSum, IsSumAt, met_sum, sums_certify}
 
 module _ (s : System) (left : List ℕ) (net : Net s.vars (s.locs - 1) left s.edges) where
   abbrev pub numbered : System
@@ -41,37 +41,37 @@ module _ (s : System) (left : List ℕ) (net : Net s.vars (s.locs - 1) left s.ed
       omega arith
 
   -- ---- what stood at the location that has a number now
-  old_place : List ℕ → ℕ → ℕ
-  old_place [] m = 0
-  old_place (k ∷ ks) m = if eqb (number_in left k) m then k else old_place ks m
+  old_location : List ℕ → ℕ → ℕ
+  old_location [] m = 0
+  old_location (k ∷ ks) m = if eqb (number_in left k) m then k else old_location ks m
 
-  old_place_is : (ks : List ℕ) → ((j : ℕ) → Among j ks → Among j left) → (k : ℕ) → Among k ks → old_place ks (number_in left k) ≡ k
-  unfolding old_place
-  old_place_is [] f k m = elim m [ ]
-  old_place_is (j ∷ ks) f k m = by (λ n. old_place_is ks (λ i n. f i (tail n)) k n) (eqb (number_in left j) (number_in left k)) refl m
+  old_location_is : (ks : List ℕ) → ((j : ℕ) → Among j ks → Among j left) → (k : ℕ) → Among k ks → old_location ks (number_in left k) ≡ k
+  unfolding old_location
+  old_location_is [] f k m = elim m [ ]
+  old_location_is (j ∷ ks) f k m = by (λ n. old_location_is ks (λ i n. f i (tail n)) k n) (eqb (number_in left j) (number_in left k)) refl m
     where
-      by : (Among k ks → old_place ks (number_in left k) ≡ k) → (b : Bool) → eqb (number_in left j) (number_in left k) ≡ b → Among k (j ∷ ks) → (if b then j else old_place ks (number_in left k)) ≡ k
+      by : (Among k ks → old_location ks (number_in left k) ≡ k) → (b : Bool) → eqb (number_in left j) (number_in left k) ≡ b → Among k (j ∷ ks) → (if b then j else old_location ks (number_in left k)) ≡ k
       by g true q m = number_same left j k (f j head) (f k m) (eqb-true _ _ q)
       by g false q m = elim (among_cons m) [
         | inl e ↦ absurd (eqb-false _ _ q (ap (number_in left) (sym e)))
         | inr n ↦ g n
       ]
 
-  pub place_before : ℕ → ℕ
-  place_before m = old_place left m
+  pub location_before : ℕ → ℕ
+  location_before m = old_location left m
 
-  pub place_before_is : (k : ℕ) → Among k left → place_before (number_in left k) ≡ k
-  unfolding place_before
-  place_before_is k m = old_place_is left (λ j n. n) k m
+  pub location_before_is : (k : ℕ) → Among k left → location_before (number_in left k) ≡ k
+  unfolding location_before
+  location_before_is k m = old_location_is left (λ j n. n) k m
 
-  pub entry_before : place_before 0 ≡ 0
-  entry_before = subst (λ m. place_before m ≡ 0) (number_none left) (place_before_is 0 net.entry)
+  pub entry_before : location_before 0 ≡ 0
+  entry_before = subst (λ m. location_before m ≡ 0) (number_none left) (location_before_is 0 net.entry)
 
   exit_number : length left - 1 ≡ number_in left (s.locs - 1)
   exit_number = let o = last_number left (s.locs - 1) net.last in omega arith
 
-  pub exit_before : place_before (length left - 1) ≡ s.locs - 1
-  exit_before = ap place_before exit_number ∙ place_before_is (s.locs - 1) net.exit
+  pub exit_before : location_before (length left - 1) ≡ s.locs - 1
+  exit_before = ap location_before exit_number ∙ location_before_is (s.locs - 1) net.exit
 
   module _ (lists : List (List Atom)) where
     atoms_for : List ℕ → ℕ → List Atom
@@ -95,10 +95,10 @@ module _ (s : System) (left : List ℕ) (net : Net s.vars (s.locs - 1) left s.ed
 
     -- an atom that stands at a number stood at the location that has it
     pub record Stood (m : ℕ) (a : Atom) : Type 0 where
-      pub place : ℕ
-      pub stays : Among place left
-      pub number : number_in left place ≡ m
-      pub has : has_atom (slice_index_or lists place []) a ≡ true
+      pub location : ℕ
+      pub stays : Among location left
+      pub number : number_in left location ≡ m
+      pub has : has_atom (slice_index_or lists location []) a ≡ true
 
     atoms_from : (ks : List ℕ) → ((j : ℕ) → Among j ks → Among j left) → (m : ℕ) (a : Atom) → has_atom (atoms_for ks m) a ≡ true → Stood m a
     unfolding atoms_for
@@ -106,7 +106,7 @@ module _ (s : System) (left : List ℕ) (net : Net s.vars (s.locs - 1) left s.ed
     atoms_from (j ∷ ks) f m a t = by (λ t. atoms_from ks (λ i n. f i (tail n)) m a t) (eqb (number_in left j) m) refl t
       where
         by : (has_atom (atoms_for ks m) a ≡ true → Stood m a) → (b : Bool) → eqb (number_in left j) m ≡ b → has_atom (if b then slice_index_or lists j [] else atoms_for ks m) a ≡ true → Stood m a
-        by g true q t = record { place = j; stays = f j head; number = eqb-true _ _ q; has = t }
+        by g true q t = record { location = j; stays = f j head; number = eqb-true _ _ q; has = t }
         by g false q t = g t
 
     at_number : (m : ℕ) → m < length left → slice_index_or lists_now m [] ≡ atoms_for left m
@@ -137,13 +137,13 @@ module _ (s : System) (left : List ℕ) (net : Net s.vars (s.locs - 1) left s.ed
       pub numbered_inductive : IsInductive (graph_of numbered) cases (family_of lists_now)
       numbered_inductive m a t =
           let o = stood m a t in
-          let g = inductive o.place a o.has in
+          let g = inductive o.location a o.has in
           record {
-            entry = λ e. g.entry (number_same left o.place 0 o.stays net.entry (o.number ∙ e ∙ sym (number_none left)));
+            entry = λ e. g.entry (number_same left o.location 0 o.stays net.entry (o.number ∙ e ∙ sym (number_none left)));
             edges = λ e i q p f h.
                 let u = mapped_among (renumbered left) s.edges i in
                 let b = net.between u.of u.among in
-                let to : u.of.to ≡ o.place = number_same left u.of.to o.place b.1 o.stays (ap (λ (x : Edge). x.to) (sym u.is) ∙ q ∙ sym o.number) in
+                let to : u.of.to ≡ o.location = number_same left u.of.to o.location b.1 o.stays (ap (λ (x : Edge). x.to) (sym u.is) ∙ q ∙ sym o.number) in
                 let r = g.edges u.of u.among to p
                 (before u.of.from p b.0 (subst (λ (x : Edge). MeetsFamily (family_of lists_now) x.from p) u.is f))
                 (subst (λ (x : Edge). MeetsAll p x.guard) u.is h) in
@@ -162,7 +162,7 @@ module _ (s : System) (left : List ℕ) (net : Net s.vars (s.locs - 1) left s.ed
           old f m live =
               let q : slice_index_or lists_now (number_in left f.from) [] ++ f.guard ≡ slice_index_or lists f.from [] ++ f.guard = ap (λ xs. xs ++ f.guard) (now_are f.from (net.between f m).0) in
               subst (λ hyps. IsSum (s.vars + 1) hyps k (owes_now (renumbered left f))) (sym q)
-              (cone_same (products (atom_values (place (s.vars + 1)) (slice_index_or lists f.from [] ++ f.guard)) k) (λ x. owes f x.0) (λ x. owes_now (renumbered left f) x.0) (λ x. same f m x.0)
+              (cone_same (products (atom_values (state (s.vars + 1)) (slice_index_or lists f.from [] ++ f.guard)) k) (λ x. owes f x.0) (λ x. owes_now (renumbered left f) x.0) (λ x. same f m x.0)
               (sums f m (λ x. live (subst IsDead (sym q) x))))
 
           by : Mapped (renumbered left) e s.edges → ¬ IsDead (slice_index_or lists_now e.from [] ++ e.guard) → IsSum (s.vars + 1) (slice_index_or lists_now e.from [] ++ e.guard) k (owes_now e)
@@ -173,7 +173,7 @@ abbrev pub with_side : Side → System → List (List Atom) → Pair → Pair
 with_side New s atoms p = record { new = s; new_atoms = atoms; old = p.old; old_atoms = p.old_atoms; cases = p.cases }
 with_side Old s atoms p = record { new = p.new; new_atoms = p.new_atoms; old = s; old_atoms = atoms; cases = p.cases }
 
--- the potential of the places before
+-- the potential of the locations before
 abbrev renamed : (ℕ → ℕ) → Potential → Potential
 renamed before f m = f (before m)
 
@@ -183,13 +183,13 @@ module _ (p : Pair) (d k : ℕ) (t : ℚ) (φ χ : Potential) (sums : (o : Duty)
     new_pair = with_side New (numbered p.new left net) (lists_now p.new left net p.new_atoms) p
 
     abbrev new_potential : Potential
-    new_potential = renamed (place_before p.new left net) φ
+    new_potential = renamed (location_before p.new left net) φ
 
     new_same : (e : Edge) → Among e p.new.edges → (x : List ℤ)
         → fall p d New φ e x -ℚ price p d e x ≡ fall new_pair d New new_potential (renumbered left e) x -ℚ price new_pair d (renumbered left e) x
     new_same e m x =
         ap₂ (λ i j. (potential_value p d New φ i x -ℚ potential_value p d New φ j (values e.update x)) -ℚ price p d e x)
-        (sym (place_before_is p.new left net e.from (net.between e m).0)) (sym (place_before_is p.new left net e.to (net.between e m).1))
+        (sym (location_before_is p.new left net e.from (net.between e m).0)) (sym (location_before_is p.new left net e.to (net.between e m).1))
 
     new_sums : (e : Edge) → Among e p.new.edges → ¬ IsDead (slice_index_or p.new_atoms e.from [] ++ e.guard)
         → IsSum (p.new.vars + 1) (slice_index_or p.new_atoms e.from [] ++ e.guard) k (λ x. fall p d New φ e x -ℚ price p d e x)
@@ -218,13 +218,13 @@ module _ (p : Pair) (d k : ℕ) (t : ℚ) (φ χ : Potential) (sums : (o : Duty)
     old_pair = with_side Old (numbered p.old left net) (lists_now p.old left net p.old_atoms) p
 
     abbrev old_potential : Potential
-    old_potential = renamed (place_before p.old left net) χ
+    old_potential = renamed (location_before p.old left net) χ
 
     old_same : (e : Edge) → Among e p.old.edges → (x : List ℤ)
         → price p d e x -ℚ fall p d Old χ e x ≡ price old_pair d (renumbered left e) x -ℚ fall old_pair d Old old_potential (renumbered left e) x
     old_same e m x =
         ap₂ (λ i j. price p d e x -ℚ (potential_value p d Old χ i x -ℚ potential_value p d Old χ j (values e.update x)))
-        (sym (place_before_is p.old left net e.from (net.between e m).0)) (sym (place_before_is p.old left net e.to (net.between e m).1))
+        (sym (location_before_is p.old left net e.from (net.between e m).0)) (sym (location_before_is p.old left net e.to (net.between e m).1))
 
     old_sums : (e : Edge) → Among e p.old.edges → ¬ IsDead (slice_index_or p.old_atoms e.from [] ++ e.guard)
         → IsSum (p.old.vars + 1) (slice_index_or p.old_atoms e.from [] ++ e.guard) k (λ x. price p d e x -ℚ fall p d Old χ e x)
@@ -252,7 +252,7 @@ module _ (p : Pair) (d k : ℕ) (t : ℚ) (φ χ : Potential) (sums : (o : Duty)
 pub new_renumbered : (p : Pair) (d k : ℕ) (t : ℚ) (left : List ℕ) (net : Net p.new.vars (p.new.locs - 1) left p.new.edges) → IsCertified p d k t
     → IsCertified (with_side New (numbered p.new left net) (lists_now p.new left net p.new_atoms) p) d k t
 new_renumbered p d k t left net (φ, χ, multipliers, m) =
-    sums_certify (new_pair p d k t φ χ sums left net) d k t (renamed (place_before p.new left net) φ) χ (new_numbered p d k t φ χ sums left net)
+    sums_certify (new_pair p d k t φ χ sums left net) d k t (renamed (location_before p.new left net) φ) χ (new_numbered p d k t φ χ sums left net)
   where
     sums : (o : Duty) → IsOwed p o → IsSumAt p d k t φ χ o
     sums o v = met_sum p d k t φ χ multipliers o (m.meets o v)
@@ -260,7 +260,7 @@ new_renumbered p d k t left net (φ, χ, multipliers, m) =
 pub old_renumbered : (p : Pair) (d k : ℕ) (t : ℚ) (left : List ℕ) (net : Net p.old.vars (p.old.locs - 1) left p.old.edges) → IsCertified p d k t
     → IsCertified (with_side Old (numbered p.old left net) (lists_now p.old left net p.old_atoms) p) d k t
 old_renumbered p d k t left net (φ, χ, multipliers, m) =
-    sums_certify (old_pair p d k t φ χ sums left net) d k t φ (renamed (place_before p.old left net) χ) (old_numbered p d k t φ χ sums left net)
+    sums_certify (old_pair p d k t φ χ sums left net) d k t φ (renamed (location_before p.old left net) χ) (old_numbered p d k t φ χ sums left net)
   where
     sums : (o : Duty) → IsOwed p o → IsSumAt p d k t φ χ o
     sums o v = met_sum p d k t φ χ multipliers o (m.meets o v)

@@ -42,7 +42,7 @@ use Rattle.dc_folding.specs.Laws.{OneFold}
 use Rattle.dc_folding.proofs.Products.{one, products, products_after}
 use Rattle.dc_folding.proofs.Choices.{atom_values}
 use Rattle.dc_folding.proofs.Entailed.{entailed_sum}
-use Rattle.dc_folding.proofs.DutySums.{Placed, place, IsSum, IsSumAt, met_sum, sums_certify}
+use Rattle.dc_folding.proofs.DutySums.{StateOf, state, IsSum, IsSumAt, met_sum, sums_certify}
 use Rattle.dc_folding.proofs.Stronger.{Gives, gives_dead, stronger_sum}
 use Rattle.dc_folding.proofs.Moved.{moved, moved_meets, value_moved, update_is}
 use Rattle.dc_folding.proofs.Induction as fold
@@ -136,18 +136,18 @@ module _ (s : System) (l : ℕ) (c : Edge) (w : IsWellFormed s) (h : IsFoldable 
 
     -- an atom of the second edge, at the state after the first one
     after_sum : ¬ IsDead both → (a : Atom) → ((p : Point) → MeetsAll p both → MeetsAt (moved n first p) a)
-        → Cone (one ∷ atom_values (place (n + 1)) both) (λ y. of_ℤ (atom_value a (next y.0)))
+        → Cone (one ∷ atom_values (state (n + 1)) both) (λ y. of_ℤ (atom_value a (next y.0)))
     after_sum live a g =
-        cone_same (one ∷ atom_values (place (n + 1)) both) (λ y. of_ℤ (atom_value (atom_at (n + 1) a (after n first)) y.0)) (λ y. of_ℤ (atom_value a (next y.0)))
+        cone_same (one ∷ atom_values (state (n + 1)) both) (λ y. of_ℤ (atom_value (atom_at (n + 1) a (after n first)) y.0)) (λ y. of_ℤ (atom_value a (next y.0)))
         (λ y. ap of_ℤ (value_moved n first second c (fold.first_edge s l c w h) (fold.second_edge s l c w h) (fold.whole_edge s l c w h) (fold.made s l c w h) a y.0))
-        (entailed_sum (place (n + 1)) both (atom_at (n + 1) a (after n first)) live (λ p m. moved_meets n first p a (g p m)))
+        (entailed_sum (state (n + 1)) both (atom_at (n + 1) a (after n first)) live (λ p m. moved_meets n first p a (g p m)))
 
     each_after : ¬ IsDead both → (as' : List Atom) → ((p : Point) → MeetsAll p both → MeetsAll (moved n first p) as')
-        → AllByRecursion (λ a. Cone (one ∷ atom_values (place (n + 1)) both) (λ y. of_ℤ (atom_value a (next y.0)))) as'
+        → AllByRecursion (λ a. Cone (one ∷ atom_values (state (n + 1)) both) (λ y. of_ℤ (atom_value a (next y.0)))) as'
     each_after live [] g = tt
     each_after live (a ∷ rest) g = (after_sum live a (λ p m. (g p m).0), each_after live rest (λ p m. (g p m).1))
 
-    move : Placed (n + 1) → Placed (n + 1)
+    move : StateOf (n + 1) → StateOf (n + 1)
     move y = (next y.0, next_length y.0)
 
     module _ (k : ℕ) (left : Edge → List ℤ → ℚ) (adds : (y : List ℤ) → left c y ≡ left first y +ℚ left second (next y)) where
@@ -157,15 +157,15 @@ module _ (s : System) (l : ℕ) (c : Edge) (w : IsWellFormed s) (h : IsFoldable 
       second_sum : ¬ IsDead both → Sum (atoms second) second → IsSum (n + 1) both k (λ y. left second (next y))
       unfolding move
       second_sum live b =
-          products_after move (atom_values (place (n + 1)) both) (atom_values (place (n + 1)) (atoms second))
-          (each-map (λ f. Cone (one ∷ atom_values (place (n + 1)) both) (λ y. f (move y))) (λ a x. of_ℤ (atom_value a (place (n + 1) x))) (atoms second)
+          products_after move (atom_values (state (n + 1)) both) (atom_values (state (n + 1)) (atoms second))
+          (each-map (λ f. Cone (one ∷ atom_values (state (n + 1)) both) (λ y. f (move y))) (λ a x. of_ℤ (atom_value a (state (n + 1) x))) (atoms second)
           (each_after live (atoms second) gives_second))
           k (λ x. left second x.0) b
 
       whole_sum : ¬ IsDead both → Sum (atoms first) first → Sum (atoms second) second → Sum both c
       whole_sum live a b =
-          cone_same (products (atom_values (place (n + 1)) both) k) (λ y. left first y.0 +ℚ left second (next y.0)) (λ y. left c y.0) (λ y. sym (adds y.0))
-          (cone_add (products (atom_values (place (n + 1)) both) k) (λ y. left first y.0) (λ y. left second (next y.0))
+          cone_same (products (atom_values (state (n + 1)) both) k) (λ y. left first y.0 +ℚ left second (next y.0)) (λ y. left c y.0) (λ y. sym (adds y.0))
+          (cone_add (products (atom_values (state (n + 1)) both) k) (λ y. left first y.0) (λ y. left second (next y.0))
           (stronger_sum (n + 1) both (atoms first) k (left first) live gives_first a) (second_sum live b))
 
       -- each edge of the folded system

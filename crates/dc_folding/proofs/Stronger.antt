@@ -18,7 +18,7 @@ use Rattle.dc_folding.specs.Laws.{AreStronger, StrongerAtoms}
 use Rattle.dc_folding.proofs.Products.{one, products_of_sums}
 use Rattle.dc_folding.proofs.Choices.{atom_values}
 use Rattle.dc_folding.proofs.Entailed.{entailed_sum}
-use Rattle.dc_folding.proofs.DutySums.{place, IsSum, IsSumAt, met_sum, sums_certify}
+use Rattle.dc_folding.proofs.DutySums.{state, IsSum, IsSumAt, met_sum, sums_certify}
 
 -- wherever the atoms of h hold, those of j do
 abbrev pub Gives : List Atom → List Atom → Type 0
@@ -33,8 +33,8 @@ each_given h (a ∷ j) g = ((λ x m. (g x m).0), each_given h j (λ x m. (g x m)
 
 pub stronger_sum : (n : ℕ) (h j : List Atom) (k : ℕ) (g : List ℤ → ℚ) → ¬ IsDead h → Gives h j → IsSum n j k g → IsSum n h k g
 stronger_sum n h j k g live e c =
-    products_of_sums (atom_values (place n) h) (atom_values (place n) j)
-    (each-map (Cone (one ∷ atom_values (place n) h)) _ j (each-weaker (Entails h) _ (λ a w. entailed_sum (place n) h a live w) j (each_given h j e)))
+    products_of_sums (atom_values (state n) h) (atom_values (state n) j)
+    (each-map (Cone (one ∷ atom_values (state n) h)) _ j (each-weaker (Entails h) _ (λ a w. entailed_sum (state n) h a live w) j (each_given h j e)))
     k (λ x. g x.0) c
 
 module _ (p : Pair) (new old : List (List Atom)) (s : AreStronger new old p) where

@@ -120,9 +120,9 @@ module _ (s t : System) (cases : List (List Atom)) (c : Candidates) (printed : L
   carried_candidates : HasCandidates (graph_of (numbered folded_system F.left net)) c (family_of lists_there)
   carried_candidates m a v =
       let o = stood folded_system F.left net last.now m a v in
-      let b = everything_is (graph_of s) c o.place a (printed_candidates s cases c printed h o.place a (last.within o.place a o.has)) in
+      let b = everything_is (graph_of s) c o.location a (printed_candidates s cases c printed h o.location a (last.within o.location a o.has)) in
       in_everything (graph_of (numbered folded_system F.left net)) c m a
-      (subst (λ k. k < length F.left) o.number (below_length folded_system F.left net o.place o.stays)) b.1
+      (subst (λ k. k < length F.left) o.number (below_length folded_system F.left net o.location o.stays)) b.1
 
   pub carried : Carried
   carried = record {

@@ -4,7 +4,7 @@ use Rattle.std.specs.List.{range_with_len}
 use Rattle.std.proofs.Common.{refl, sym, ◌∙◌, ap, subst, inl, inr, arith, append_assoc, append-nil}
 use Rattle.std.proofs.lemmas.Grind.{flat_map-append}
 use Rattle.dc_entail.specs.Asked.{Asked, AllDone, Refuses}
-use Rattle.dc_entail.specs.declared.answer.Place.{Place}
+use Rattle.dc_entail.specs.declared.answer.Site.{Site}
 use Rattle.dc_simplex.specs.Limits.{Answer}
 use Rattle.dc_entail.proofs.Refusals.{refusals_join}
 use Rattle.dc_greatest.specs.declared.family.InvFault.{InvFault}
@@ -69,11 +69,11 @@ module _ (g : ℕ → List Asked) where
   pub first_done : (budget k : ℕ) → AllDone budget (first_asked k) → AllDone budget (g k) → AllDone budget (first_asked (suc k))
   first_done budget k d e = subst (AllDone budget) (sym (first_next k)) (both_done budget (first_asked k) (g k) d e)
 
-  pub first_refused : (budget n k : ℕ) (place : Place) (a : Answer) → k < n → AllDone budget (first_asked k) → Refuses budget (g k) place a → Refuses budget (first_asked n) place a
-  first_refused budget n k place a h d r =
+  pub first_refused : (budget n k : ℕ) (site : Site) (a : Answer) → k < n → AllDone budget (first_asked k) → Refuses budget (g k) site a → Refuses budget (first_asked n) site a
+  first_refused budget n k site a h d r =
       let rest = flat_map g (range_with_len (k + 1) (n - k - 1)) in
-      subst (λ xs. Refuses budget xs place a) (sym (first_split n k h))
-      ((refusals_join budget (first_asked k) (g k ++ rest) place a).1 (inr (d, (refusals_join budget (g k) rest place a).1 (inl r))))
+      subst (λ xs. Refuses budget xs site a) (sym (first_split n k h))
+      ((refusals_join budget (first_asked k) (g k ++ rest) site a).1 (inr (d, (refusals_join budget (g k) rest site a).1 (inl r))))
 
   -- of a list that is asked for so many rows
   pub all_done : (budget n k : ℕ) (whole : List Asked) → whole ≡ first_asked n → k ≡ n → AllDone budget (first_asked k) → AllDone budget whole

@@ -10,7 +10,7 @@ use Rattle.dc_simplex.specs.Limits.{Answer, Past, Out}
 use Rattle.dc_points.specs.Points.{Entails}
 use Rattle.dc_points.specs.Shown.{AreFlags}
 use Rattle.dc_entail.specs.Asked.{Asked, AllDone, Refuses}
-use Rattle.dc_entail.specs.declared.answer.Place.{Place}
+use Rattle.dc_entail.specs.declared.answer.Site.{Site}
 use Rattle.dc_entail.proofs.Refusals.{refusals_join}
 use Rattle.dc_rows.specs.declared.kinds.Candidates.{Candidates}
 use Rattle.dc_families.specs.Graphs.{Graph}
@@ -29,7 +29,7 @@ use Rattle.dc_greatest.proofs.Shapes.{nowhere}
 use Rattle.dc_greatest.proofs.Setting.{shaped_set, set_here, set_other}
 use Rattle.dc_greatest.proofs.Unchanged.{both_done}
 
--- ---- lists that are cut at a place
+-- ---- lists that are cut at an index
 take_next : {A : Type 0} (xs : List A) (k : ℕ) (d : A) → k < length xs → take (suc k) xs ≡ take k xs ++ slice_index_or xs k d ∷ []
 take_next [] k d l = absurd (omega arith)
 take_next (x ∷ xs) zero d l = refl
@@ -139,19 +139,19 @@ module _ (side : Side) (s : Graph) (cases : List (List Atom)) (live : List Bool)
     }
 
     -- ---- a refusal at a case
-    refused : (fs : List LocFamily) → AreCasesTaken side s cases live c J budget k fs → (place : Place) (a : Answer) → Refuses budget (asked_at k) place a
-        → (whole : List Asked) × EntryAsks side s cases live c J whole × Refuses budget whole place a
-    refused fs h place a r =
+    refused : (fs : List LocFamily) → AreCasesTaken side s cases live c J budget k fs → (site : Site) (a : Answer) → Refuses budget (asked_at k) site a
+        → (whole : List Asked) × EntryAsks side s cases live c J whole × Refuses budget whole site a
+    refused fs h site a r =
         let z : 0 + k ≡ k = omega arith in
         let first = for_live asks 0 (take k cases) (take k live) in
         let rest = for_live asks (0 + suc k) (drop (suc k) cases) (drop (suc k) live) in
-        let here : Refuses budget (asked_at k ++ rest) place a = (refusals_join budget (asked_at k) rest place a).1 (inl r) in
-        let there : Refuses budget (one_case asks (0 + k) (case_at k) (slice_index_or live k false) ++ rest) place a = subst (λ i. Refuses budget (one_case asks i (case_at k) (slice_index_or live k false) ++ rest) place a) (sym z) here in
-        (for_live asks 0 cases live, refl, subst (λ xs. Refuses budget xs place a) (sym (live_split asks 0 k cases live l long)) ((refusals_join budget first (one_case asks (0 + k) (case_at k) (slice_index_or live k false) ++ rest) place a).1 (inr (h.done, there))))
+        let here : Refuses budget (asked_at k ++ rest) site a = (refusals_join budget (asked_at k) rest site a).1 (inl r) in
+        let there : Refuses budget (one_case asks (0 + k) (case_at k) (slice_index_or live k false) ++ rest) site a = subst (λ i. Refuses budget (one_case asks i (case_at k) (slice_index_or live k false) ++ rest) site a) (sym z) here in
+        (for_live asks 0 cases live, refl, subst (λ xs. Refuses budget xs site a) (sym (live_split asks 0 k cases live l long)) ((refusals_join budget first (one_case asks (0 + k) (case_at k) (slice_index_or live k false) ++ rest) site a).1 (inr (h.done, there))))
 
     pub cases_fault : (fs : List LocFamily) → AreCasesTaken side s cases live c J budget k fs → (f : InvFault) → IsFault budget (λ asked. asked ≡ asked_at k) f → IsFault budget (EntryAsks side s cases live c J) f
-    cases_fault fs h (Past128 place n) (asked, q, r) = refused fs h place (Past n) (subst (λ xs. Refuses budget xs place (Past n)) q r)
-    cases_fault fs h (Budget place) (asked, q, r) = refused fs h place (Out budget) (subst (λ xs. Refuses budget xs place (Out budget)) q r)
+    cases_fault fs h (Past128 site n) (asked, q, r) = refused fs h site (Past n) (subst (λ xs. Refuses budget xs site (Past n)) q r)
+    cases_fault fs h (Budget site) (asked, q, r) = refused fs h site (Out budget) (subst (λ xs. Refuses budget xs site (Out budget)) q r)
     cases_fault fs h NoMemory q = tt
 
   -- ---- after all of them

@@ -9,7 +9,7 @@ use Rattle.dc_points.specs.Points.{Point, MeetsAt, MeetsAll, Entails, IsDead}
 use Rattle.dc_points.specs.Shown.{IsFlag}
 use Rattle.dc_simplex.specs.Limits.{Answer}
 use Rattle.dc_entail.specs.Asked.{Asked, IsDone, AllDone, Refuses}
-use Rattle.dc_entail.specs.declared.answer.Place.{Place}
+use Rattle.dc_entail.specs.declared.answer.Site.{Site}
 use Rattle.dc_rows.specs.declared.kinds.Candidates.{Candidates}
 use Rattle.dc_rows.specs.Candidate.{AreCandidates}
 use Rattle.dc_families.specs.Graphs.{Graph}
@@ -105,7 +105,7 @@ module _ (side : Side) (s : Graph) (cases : List (List Atom)) (live : List Bool)
       let b = has_flag (edge_atoms s c J e) in
       (edge_asked side s c J k e b.0, (b.0, b.1, refl), subst (λ xs. Refuses budget xs p a) (sym (asked_live b.0 t)) (by p a (if b.0 then rows else []) (subst (λ xs. Refuses budget xs p a) q r)))) f
     where
-      by : (p : Place) (a : Answer) (rest : List Asked) → Refuses budget (edge_empty side s c J k e ∷ []) p a → Refuses budget (edge_empty side s c J k e ∷ rest) p a
+      by : (p : Site) (a : Answer) (rest : List Asked) → Refuses budget (edge_empty side s c J k e ∷ []) p a → Refuses budget (edge_empty side s c J k e ∷ rest) p a
       by p a rest (inl x) = inl x
       by p a rest (inr x) = absurd x.1
 

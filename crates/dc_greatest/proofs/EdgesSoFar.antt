@@ -14,7 +14,7 @@ use Rattle.dc_system.specs.Shapes.{IsWellFormed, IsWithin as EndsWithin}
 use Rattle.dc_points.specs.Points.{IsDead}
 use Rattle.dc_points.specs.Shown.{IsFlag, AreFlags}
 use Rattle.dc_entail.specs.Asked.{Asked, AllDone, Refuses}
-use Rattle.dc_entail.specs.declared.answer.Place.{Place}
+use Rattle.dc_entail.specs.declared.answer.Site.{Site}
 use Rattle.dc_entail.proofs.Refusals.{refusals_join}
 use Rattle.dc_rows.specs.declared.kinds.Candidates.{Candidates}
 use Rattle.dc_families.specs.Graphs.{Graph, with_edges}
@@ -162,8 +162,8 @@ module _ (side : Side) (s : Graph) (cases : List (List Atom)) (live : List Bool)
 
   -- ---- a refusal at an edge
   refused_at : (k : ℕ) (e : Edge) (fs : List LocFamily) → AreFirstTaken side s cases live c J budget k fs → k < length s.edges → slice_index_or s.edges k e ≡ e
-      → (asked : List Asked) → EdgeAsks side s cases live c J k e asked → (place : Place) (a : Answer) → Refuses budget asked place a → (whole : List Asked) × EdgesAsk side s cases live c J whole × Refuses budget whole place a
-  refused_at k e fs h l i asked q place a r =
+      → (asked : List Asked) → EdgeAsks side s cases live c J k e asked → (site : Site) (a : Answer) → Refuses budget asked site a → (whole : List Asked) × EdgesAsk side s cases live c J whole × Refuses budget whole site a
+  refused_at k e fs h l i asked q site a r =
       let rest = drop (suc k) s.edges in
       let f = has_flags (map atoms rest) in
       let w = cut_at s.edges k e l i in
@@ -175,13 +175,13 @@ module _ (side : Side) (s : Graph) (cases : List (List Atom)) (live : List Bool)
       ap (λ es. for_edges asks 0 es flags) w ∙ asked_join atoms asks 0 (take k s.edges) h.flags (e ∷ rest) (q.0 ∷ f.0) h.right
       ∙ ap (λ n. for_edges asks 0 (take k s.edges) h.flags ++ for_edges asks n (e ∷ rest) (q.0 ∷ f.0)) z
       ∙ ap (λ xs. for_edges asks 0 (take k s.edges) h.flags ++ (xs ++ last)) (sym q.2) in
-      let here : Refuses budget (asked ++ last) place a = (refusals_join budget asked last place a).1 (inl r) in
-      (for_edges asks 0 s.edges flags, (flags, right, refl), subst (λ xs. Refuses budget xs place a) (sym j) ((refusals_join budget (for_edges asks 0 (take k s.edges) h.flags) (asked ++ last) place a).1 (inr (h.done, here))))
+      let here : Refuses budget (asked ++ last) site a = (refusals_join budget asked last site a).1 (inl r) in
+      (for_edges asks 0 s.edges flags, (flags, right, refl), subst (λ xs. Refuses budget xs site a) (sym j) ((refusals_join budget (for_edges asks 0 (take k s.edges) h.flags) (asked ++ last) site a).1 (inr (h.done, here))))
 
   pub so_far_fault : (k : ℕ) (e : Edge) (fs : List LocFamily) → AreFirstTaken side s cases live c J budget k fs → k < length s.edges → slice_index_or s.edges k e ≡ e
       → (f : InvFault) → IsFault budget (EdgeAsks side s cases live c J k e) f → IsFault budget (EdgesAsk side s cases live c J) f
-  so_far_fault k e fs h l i (Past128 place n) (asked, q, r) = refused_at k e fs h l i asked q place (Past n) r
-  so_far_fault k e fs h l i (Budget place) (asked, q, r) = refused_at k e fs h l i asked q place (Out budget) r
+  so_far_fault k e fs h l i (Past128 site n) (asked, q, r) = refused_at k e fs h l i asked q site (Past n) r
+  so_far_fault k e fs h l i (Budget site) (asked, q, r) = refused_at k e fs h l i asked q site (Out budget) r
   so_far_fault k e fs h l i NoMemory q = tt
 
 -- ---- edges of a well formed system

@@ -10,26 +10,26 @@ use Rattle.dc_simplex.specs.declared.SolveFault.TheVariants as solve
 use Rattle.dc_points.specs.Stated.{rational}
 use Rattle.dc_entail.specs.Answers.{IsSolveFault, IsBestAt, IsRefutedAt}
 use Rattle.dc_entail.specs.Asked.{Asked, Refuses}
-use Rattle.dc_entail.specs.declared.answer.Place.{Place}
+use Rattle.dc_entail.specs.declared.answer.Site.{Site}
 use Rattle.dc_greatest.specs.declared.family.InvFault.{InvFault}
 use Rattle.dc_greatest.specs.declared.family.InvFault.TheVariants.{Past128, Budget, NoMemory}
-use Rattle.dc_greatest.specs.Placed.{placed}
+use Rattle.dc_greatest.specs.Refusals.{with_site}
 use Rattle.dc_greatest.specs.Answers.{IsFault}
 use Rattle.dc_greatest.specs.Bounds.{HasEnd}
 
 -- the refusal of a part is that of a whole
 pub fault_from : (budget : ℕ) (P Q : List Asked → Type 0)
-    → ((asked : List Asked) → P asked → (place : Place) (a : Answer) → Refuses budget asked place a → (whole : List Asked) × Q whole × Refuses budget whole place a)
+    → ((asked : List Asked) → P asked → (site : Site) (a : Answer) → Refuses budget asked site a → (whole : List Asked) × Q whole × Refuses budget whole site a)
     → (f : InvFault) → IsFault budget P f → IsFault budget Q f
-fault_from budget P Q h (Past128 place k) (asked, p, r) = h asked p place (Past k) r
-fault_from budget P Q h (Budget place) (asked, p, r) = h asked p place (Out budget) r
+fault_from budget P Q h (Past128 site k) (asked, p, r) = h asked p site (Past k) r
+fault_from budget P Q h (Budget site) (asked, p, r) = h asked p site (Out budget) r
 fault_from budget P Q h NoMemory t = tt
 
--- of one problem, with its place
-pub placed_fault : (budget : ℕ) (q : Asked) (f : SolveFault) → IsSolveFault (rational q.problem) budget f → IsFault budget (λ asked. asked ≡ q ∷ []) (placed q.place f)
-placed_fault budget q (solve.Past128 k) h = (q ∷ [], refl, inl (refl, tt, h))
-placed_fault budget q (solve.Budget n) h = (q ∷ [], refl, inl (refl, tt, subst (λ i. IsAnswer (rational q.problem) budget (Out i)) h.1 h))
-placed_fault budget q solve.NoMemory h = tt
+-- of one problem, with its site
+pub fault_with_site : (budget : ℕ) (q : Asked) (f : SolveFault) → IsSolveFault (rational q.problem) budget f → IsFault budget (λ asked. asked ≡ q ∷ []) (with_site q.site f)
+fault_with_site budget q (solve.Past128 k) h = (q ∷ [], refl, inl (refl, tt, h))
+fault_with_site budget q (solve.Budget n) h = (q ∷ [], refl, inl (refl, tt, subst (λ i. IsAnswer (rational q.problem) budget (Out i)) h.1 h))
+fault_with_site budget q solve.NoMemory h = tt
 
 -- ---- what comes to its end
 pub best_end : (budget : ℕ) (p : Linear ℤ) (x : List Frac) → IsBestAt (rational p) budget x → HasEnd budget p

@@ -24,7 +24,7 @@ use Rattle.dc_points.specs.Stated.{rational, empty_problem, sup_problem}
 use Rattle.dc_points.proofs.Whole.{atoms_are_forms}
 use Rattle.dc_entail.specs.Answers.{IsSolveFault}
 use Rattle.dc_entail.specs.Asked.{Asked, AllDone}
-use Rattle.dc_entail.specs.declared.answer.Place.TheVariants as place
+use Rattle.dc_entail.specs.declared.answer.Site.TheVariants as site
 use Rattle.dc_rows.specs.declared.kinds.Candidates.{Candidates}
 use Rattle.dc_rows.specs.Rows.{Row}
 use Rattle.dc_rows.specs.Candidate.{row_at, bound_at, IsRow, AreCandidates}
@@ -39,11 +39,11 @@ use Rattle.dc_moves.specs.Cuts.{with_guard}
 use Rattle.dc_moves.proofs.Cuts.{cuts_say_the_same, cuts_ask_the_same, cuts_ask_the_same_forms, cuts_are_atoms}
 use Rattle.dc_moves.proofs.Forms.{forms_have_places, forms_are_light, forms_tell_atoms, row_is_light}
 use Rattle.dc_greatest.specs.Answers.{IsFault}
-use Rattle.dc_greatest.specs.Placed.{placed}
+use Rattle.dc_greatest.specs.Refusals.{with_site}
 use Rattle.dc_greatest.specs.Bounds.{IsLeast, HasEnd}
 use Rattle.dc_greatest.specs.Parts.{edge_atoms, edge_row, entry_row}
 use Rattle.dc_greatest.proofs.EdgeTaken.{gives_entailed, live_affine}
-use Rattle.dc_greatest.proofs.Faults.{placed_fault}
+use Rattle.dc_greatest.proofs.Faults.{fault_with_site}
 use Rattle.dc_greatest.proofs.Rows.{least_same, nothing_least}
 use Rattle.dc_greatest.proofs.Sames.{any_default}
 
@@ -152,11 +152,11 @@ module _ (s : Graph) (c : Candidates) (J : Family) (kind : AreCandidates s.vars 
 
     pub row_refused : (kept affine : Bool) → kept ≡ true → (f : SolveFault)
         → ((affine ≡ true) × IsSolveFault (rational (sup_problem (edge_atoms s c J e) (form_after s.vars e (row_at c r)))) budget f) ⊎ (f ≡ NoMemory)
-        → IsFault budget (λ xs. xs ≡ asked kept affine) (placed (place.EdgeRow side k r) f)
-    row_refused true true q f (inl t) = placed_fault budget (edge_row side s c J k e r) f t.1
+        → IsFault budget (λ xs. xs ≡ asked kept affine) (with_site (site.EdgeRow side k r) f)
+    row_refused true true q f (inl t) = fault_with_site budget (edge_row side s c J k e r) f t.1
     row_refused true false q f (inl t) = differ (sym t.0)
     row_refused false affine q f t = differ (sym q)
-    row_refused true affine q f (inr t) = subst (λ g. IsFault budget (λ xs. xs ≡ asked true affine) (placed (place.EdgeRow side k r) g)) (sym t) tt
+    row_refused true affine q f (inr t) = subst (λ g. IsFault budget (λ xs. xs ≡ asked true affine) (with_site (site.EdgeRow side k r) g)) (sym t) tt
 
 -- ---- by a case
 take_long : {A : Type 0} (k : ℕ) (xs : List A) → k ≤ length xs → length (take k xs) ≡ k
@@ -208,8 +208,8 @@ module _ (side : Side) (s : Graph) (c : Candidates) (J : Family) (budget k : ℕ
   entry_unasked false q = tt
 
   pub entry_refused : (kept : Bool) → kept ≡ true → (f : SolveFault) → IsSolveFault (rational (sup_problem case (take s.params (row_at c r)))) budget f
-      → IsFault budget (λ xs. xs ≡ entry_asked kept) (placed (place.EntryRow side k r) f)
-  entry_refused true q f t = placed_fault budget (entry_row side s c J k case r) f t
+      → IsFault budget (λ xs. xs ≡ entry_asked kept) (with_site (site.EntryRow side k r) f)
+  entry_refused true q f t = fault_with_site budget (entry_row side s c J k case r) f t
   entry_refused false q f t = differ (sym q)
 
 -- ---- what code reads

@@ -6,7 +6,7 @@ use Rattle.dc_syntax.specs.declared.tree.Side.{Side}
 use Rattle.dc_affine.specs.declared.atom.Atom.{Atom}
 use Rattle.dc_simplex.specs.Limits.{Answer, Past, Out}
 use Rattle.dc_entail.specs.Asked.{Asked, AllDone, Refuses}
-use Rattle.dc_entail.specs.declared.answer.Place.{Place}
+use Rattle.dc_entail.specs.declared.answer.Site.{Site}
 use Rattle.dc_entail.proofs.Refusals.{refusals_join}
 use Rattle.dc_rows.specs.declared.kinds.Candidates.{Candidates}
 use Rattle.dc_families.specs.Graphs.{Graph}
@@ -49,25 +49,25 @@ module _ (side : Side) (s : Graph) (cases : List (List Atom)) (live : List Bool)
           (for_live (entry_rows side s c J) 0 cases live ++ k.through.0, (f.0, f.1, ap (λ xs. for_live (entry_rows side s c J) 0 cases live ++ xs) f.2), both_done budget _ k.through.0 h.done k.through.2);
     }
 
-    first_refused : (asked : List Asked) → EntryAsks side s cases live c J asked → (place : Place) (a : Answer) → Refuses budget asked place a
-        → (whole : List Asked) × RoundAsks side s cases live c J whole × Refuses budget whole place a
-    first_refused asked e place a r =
+    first_refused : (asked : List Asked) → EntryAsks side s cases live c J asked → (site : Site) (a : Answer) → Refuses budget asked site a
+        → (whole : List Asked) × RoundAsks side s cases live c J whole × Refuses budget whole site a
+    first_refused asked e site a r =
         let f = has_flags (map (edge_atoms s c J) s.edges) in
         let rest = for_edges (edge_asked side s c J) 0 s.edges f.0 in
-        (asked ++ rest, (f.0, f.1, ap (λ xs. xs ++ rest) e), (refusals_join budget asked rest place a).1 (inl r))
+        (asked ++ rest, (f.0, f.1, ap (λ xs. xs ++ rest) e), (refusals_join budget asked rest site a).1 (inl r))
 
     pub entries_fault : (f : InvFault) → IsFault budget (EntryAsks side s cases live c J) f → IsFault budget (RoundAsks side s cases live c J) f
-    entries_fault (Past128 place k) (asked, e, r) = first_refused asked e place (Past k) r
-    entries_fault (Budget place) (asked, e, r) = first_refused asked e place (Out budget) r
+    entries_fault (Past128 site k) (asked, e, r) = first_refused asked e site (Past k) r
+    entries_fault (Budget site) (asked, e, r) = first_refused asked e site (Out budget) r
     entries_fault NoMemory h = tt
 
-    second_refused : AllDone budget (for_live (entry_rows side s c J) 0 cases live) → (asked : List Asked) → EdgesAsk side s cases live c J asked → (place : Place) (a : Answer) → Refuses budget asked place a
-        → (whole : List Asked) × RoundAsks side s cases live c J whole × Refuses budget whole place a
-    second_refused d asked q place a r =
+    second_refused : AllDone budget (for_live (entry_rows side s c J) 0 cases live) → (asked : List Asked) → EdgesAsk side s cases live c J asked → (site : Site) (a : Answer) → Refuses budget asked site a
+        → (whole : List Asked) × RoundAsks side s cases live c J whole × Refuses budget whole site a
+    second_refused d asked q site a r =
         let first = for_live (entry_rows side s c J) 0 cases live in
-        (first ++ asked, (q.0, q.1, ap (λ xs. first ++ xs) q.2), (refusals_join budget first asked place a).1 (inr (d, r)))
+        (first ++ asked, (q.0, q.1, ap (λ xs. first ++ xs) q.2), (refusals_join budget first asked site a).1 (inr (d, r)))
 
     pub edges_fault : (fs : List LocFamily) → AreEntriesTaken side s cases live c J budget fs → (f : InvFault) → IsFault budget (EdgesAsk side s cases live c J) f → IsFault budget (RoundAsks side s cases live c J) f
-    edges_fault fs h (Past128 place k) (asked, q, r) = second_refused h.done asked q place (Past k) r
-    edges_fault fs h (Budget place) (asked, q, r) = second_refused h.done asked q place (Out budget) r
+    edges_fault fs h (Past128 site k) (asked, q, r) = second_refused h.done asked q site (Past k) r
+    edges_fault fs h (Budget site) (asked, q, r) = second_refused h.done asked q site (Out budget) r
     edges_fault fs h NoMemory q = tt

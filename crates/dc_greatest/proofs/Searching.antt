@@ -10,7 +10,7 @@ use Rattle.dc_simplex.specs.Limits.{Answer, Past, Out}
 use Rattle.dc_system.specs.declared.edges.Edge.{Edge}
 use Rattle.dc_points.specs.Shown.{IsFlag, AreFlags}
 use Rattle.dc_entail.specs.Asked.{Asked, AllDone, Refuses}
-use Rattle.dc_entail.specs.declared.answer.Place.{Place}
+use Rattle.dc_entail.specs.declared.answer.Site.{Site}
 use Rattle.dc_entail.proofs.Refusals.{refusals_join}
 use Rattle.dc_rows.specs.declared.kinds.Candidates.{Candidates}
 use Rattle.dc_rows.specs.Candidate.{AreCandidates}
@@ -165,16 +165,16 @@ module _ (side : Side) (s : Graph) (cases : List (List Atom)) (live : List Bool)
   rounds_begin J K _ (next {asked = xs} flags a r n t) = (flags, a, (xs, refl))
 
   refused : (fs : List LocFamily) (fresh : Bool) (numbers : List ℕ) → IsSearching fs fresh numbers → (asked : List Asked) → RoundAsks side s cases live c (family fs) asked
-      → (place : Place) (a : Answer) → Refuses budget asked place a → (whole : List Asked) × RoundsAsk side s cases live c whole × Refuses budget whole place a
-  refused fs fresh numbers h asked q place a no' =
+      → (site : Site) (a : Answer) → Refuses budget asked site a → (whole : List Asked) × RoundsAsk side s cases live c whole × Refuses budget whole site a
+  refused fs fresh numbers h asked q site a no' =
       let e = ends side s cases live c (suc (size fs)) (family fs) h.above (omega arith) in
       let b = rounds_begin (family fs) e.1 e.0 e.2 in
       let same : asked ++ b.2.0 ≡ e.0 = ap (λ xs. xs ++ b.2.0) (q.2 ∙ ap (round_asked side s c (family fs) cases live) (flags_same q.0 b.0 _ q.1 b.1)) ∙ sym b.2.1 in
-      let here : Refuses budget e.0 place a = subst (λ xs. Refuses budget xs place a) same ((refusals_join budget asked b.2.0 place a).1 (inl no')) in
-      (h.done ++ e.0, (e.1, h.then e.0 e.1 e.2), (refusals_join budget h.done e.0 place a).1 (inr (h.through, here)))
+      let here : Refuses budget e.0 site a = subst (λ xs. Refuses budget xs site a) same ((refusals_join budget asked b.2.0 site a).1 (inl no')) in
+      (h.done ++ e.0, (e.1, h.then e.0 e.1 e.2), (refusals_join budget h.done e.0 site a).1 (inr (h.through, here)))
 
   pub searching_fault : (fs : List LocFamily) (fresh : Bool) (numbers : List ℕ) → IsSearching fs fresh numbers → (f : InvFault)
       → IsFault budget (RoundAsks side s cases live c (family fs)) f → IsFault budget (RoundsAsk side s cases live c) f
-  searching_fault fs fresh numbers h (Past128 place k) (asked, q, no') = refused fs fresh numbers h asked q place (Past k) no'
-  searching_fault fs fresh numbers h (Budget place) (asked, q, no') = refused fs fresh numbers h asked q place (Out budget) no'
+  searching_fault fs fresh numbers h (Past128 site k) (asked, q, no') = refused fs fresh numbers h asked q site (Past k) no'
+  searching_fault fs fresh numbers h (Budget site) (asked, q, no') = refused fs fresh numbers h asked q site (Out budget) no'
   searching_fault fs fresh numbers h NoMemory q = tt

@@ -20,10 +20,10 @@ IsThrough budget Asks = (asked : List Asked) × Asks asked × AllDone budget ask
 
 -- a refusal: want of memory is free, each other is the first of that part
 abbrev pub IsFault : ℕ → (List Asked → Type 0) → InvFault → Type 0
-IsFault budget Asks (Past128 place k) =
-    (asked : List Asked) × Asks asked × Refuses budget asked place (Past k)
-IsFault budget Asks (Budget place) =
-    (asked : List Asked) × Asks asked × Refuses budget asked place (Out budget)
+IsFault budget Asks (Past128 site k) =
+    (asked : List Asked) × Asks asked × Refuses budget asked site (Past k)
+IsFault budget Asks (Budget site) =
+    (asked : List Asked) × Asks asked × Refuses budget asked site (Out budget)
 IsFault budget Asks NoMemory = Unit {0}
 
 -- the greatest family, where the problems of all rounds come to their end

@@ -1,6 +1,6 @@
 pub mod Kept
 pub mod Bounds
-pub mod Placed
+pub mod Refusals
 pub mod Parts
 pub mod Answers
 pub mod Searches

@@ -4,7 +4,7 @@ use Rattle.dc_syntax.specs.declared.tree.Side.{Side}
 use Rattle.dc_affine.specs.declared.atom.Atom.{Atom}
 use Rattle.dc_system.specs.declared.edges.Edge.{Edge}
 use Rattle.dc_system.specs.After.{is_affine_after}
-use Rattle.dc_entail.specs.declared.answer.Place.TheVariants as place
+use Rattle.dc_entail.specs.declared.answer.Site.TheVariants as site
 use Rattle.dc_points.specs.Stated.{empty_problem, sup_problem}
 use Rattle.dc_entail.specs.Asked.{Asked, ask}
 use Rattle.dc_points.specs.Shown.{AreFlags}
@@ -45,7 +45,7 @@ module _ (s : Graph) (c : Candidates) (J : Family) where
 module _ (side : Side) (s : Graph) (c : Candidates) (J : Family) where
   -- ---- at the entry: by a case, each row that is kept at location 0, with the locals 0
   abbrev pub entry_row : ℕ → List Atom → ℕ → Asked
-  entry_row k case r = ask (place.EntryRow side k r) (sup_problem case (take s.params (row_at c r)))
+  entry_row k case r = ask (site.EntryRow side k r) (sup_problem case (take s.params (row_at c r)))
 
   abbrev pub entry_rows : ℕ → List Atom → List Asked
   entry_rows k case = map (entry_row k case) (kept_rows c J 0)
@@ -53,11 +53,11 @@ module _ (side : Side) (s : Graph) (c : Candidates) (J : Family) where
   -- ---- along an edge: whether it is dead, and where it is live those rows
   abbrev pub edge_row : ℕ → Edge → ℕ → Asked
   edge_row k e r =
-      ask (place.EdgeRow side k r)
+      ask (site.EdgeRow side k r)
       (sup_problem (edge_atoms s c J e) (form_after s.vars e (row_at c r)))
 
   abbrev pub edge_empty : ℕ → Edge → Asked
-  edge_empty k e = ask (place.Edge side k) (empty_problem (edge_atoms s c J e) (edge_places s.vars e))
+  edge_empty k e = ask (site.Edge side k) (empty_problem (edge_atoms s c J e) (edge_places s.vars e))
 
   -- an edge whose source has false is not asked for
   abbrev pub edge_asked : ℕ → Edge → Bool → List Asked

@@ -40,7 +40,8 @@ module _ (side : Side) (s : Graph) (cases : List (List Atom)) (live : List Bool)
   RoundAsks asked =
       (flags : List Bool) × AreLive s c J flags × (asked ≡ round_asked side s c J cases live flags)
 
-  -- ---- what need not be looked at: it gives what the family has, and its problems have come to their end
+  -- ---- what need not be looked at: it gives what the family has, and its problems have come to
+  -- their end
   pub record IsSettledEdge (budget k : ℕ) (e : Edge) : Type 0 where
     pub gives : (a : Atom) → J e.to a ≡ true → EdgeGives s J e a
     pub done : (b : Bool) → IsFlag b (edge_atoms s c J e) → AllDone budget (edge_asked side s c J k e b)

@@ -1,8 +1,8 @@
 //! Families as the code keeps them, and refusals.
 ghost use Rattle.std.specs.Prelude.{◌≡◌};
-ghost use Rattle.dc_greatest.specs.Placed.{placed};
+ghost use Rattle.dc_greatest.specs.Refusals.{with_site};
 
-use dc_entail::Place;
+use dc_entail::Site;
 use dc_simplex::SolveFault;
 use sqlite_items::Items;
 use std::alloc::AllocError;
@@ -25,25 +25,25 @@ pub struct Family {
 /// Why there is no answer.
 #[derive(Debug, Drop, Error)]
 pub enum InvFault {
-    /// The problem at a place is the first with a pivot that doesn't fit 128 bits, counted from 1.
+    /// The problem at a site is the first with a pivot that doesn't fit 128 bits, counted from 1.
     #[error("pivot {pivot} passes 128 bits")]
-    Past128 { place: Place, pivot: u64 },
-    /// The problem at a place is the first that wants more pivots than the budget.
+    Past128 { site: Site, pivot: u64 },
+    /// The problem at a site is the first that wants more pivots than the budget.
     #[error("the pivots are spent")]
-    Budget { place: Place },
+    Budget { site: Site },
     /// Memory ran out.
     #[error("out of memory")]
     NoMemory,
 }
 
 impl InvFault {
-    /// The refusal of the problem at a place.
-    pub fn at(place: Place, fault: SolveFault) -> InvFault
-        ensures { result ≡ placed place fault }
+    /// The refusal of the problem at a site.
+    pub fn at(site: Site, fault: SolveFault) -> InvFault
+        ensures { result ≡ with_site site fault }
     {
         match fault {
-            SolveFault::Past128 { pivot } => InvFault::Past128 { place, pivot },
-            SolveFault::Budget { .. } => InvFault::Budget { place },
+            SolveFault::Past128 { pivot } => InvFault::Past128 { site, pivot },
+            SolveFault::Budget { .. } => InvFault::Budget { site },
             SolveFault::NoMemory => InvFault::NoMemory,
         }
     }

@@ -19,7 +19,7 @@ use crate::bounds::{least_bound, lower};
 use crate::family::{InvFault, LocFamily};
 use crate::lent::Lent;
 use dc_affine::Atom;
-use dc_entail::{Emptiness, Place, empty};
+use dc_entail::{Emptiness, Site, empty};
 use dc_lp::Tableau;
 use dc_moves::{edge_places, first_numbers, with_guard};
 use dc_simplex::SolveFault;
@@ -107,7 +107,7 @@ fn edge_row<T: Tableau>(
             Ok(())
         }
         Err(fault) => Err(InvFault::at(
-            Place::EdgeRow {
+            Site::EdgeRow {
                 side: t.side,
                 edge: k,
                 row,
@@ -187,7 +187,7 @@ pub(crate) fn pass_edge<T: Tableau>(
             edge_rows(alloc, t, at, k, edge, &hyps, target, tableau)
         }
         Err(fault) => Err(InvFault::at(
-            Place::Edge {
+            Site::Edge {
                 side: t.side,
                 edge: k,
             },
@@ -264,7 +264,7 @@ fn case_row<T: Tableau>(
             Ok(())
         }
         Err(fault) => Err(InvFault::at(
-            Place::EntryRow {
+            Site::EntryRow {
                 side: t.side,
                 case: k,
                 row,
@@ -319,7 +319,9 @@ pub(crate) fn pass_case<T: Tableau>(
     requires case { k < length t.now.cases.now }
     requires fit { IsFit t.now.candidates.now target.old }
     requires before { HasNoMore (slice_index_or at.now 0 target.old) target.old }
-    ensures taken { OnOk result (IsTaken (λ a. Entails (case_at t.now k) (at_start t.now.system.now.params a)) t.now.system.now.vars t.now.candidates.now target.old target.new) }
+    ensures taken { OnOk result
+        (IsTaken (λ a. Entails (case_at t.now k) (at_start t.now.system.now.params a))
+        t.now.system.now.vars t.now.candidates.now target.old target.new) }
     ensures done { OnOk result (AllDone t.now.budget (case_asked t.now (family t.now at.now) k)) }
     ensures fault { IfErr result
         (IsFault t.now.budget (λ asked. asked ≡ case_asked t.now (family t.now at.now) k)) }

@@ -155,7 +155,9 @@ fn round<T: Tableau>(
 /// Rounds until one changes nothing.
 fn rounds<T: Tableau>(alloc: Global, t: &Lent, tableau: &mut T) -> Result<Vec<LocFamily>, InvFault>
     requires lent { IsLent t.now }
-    ensures answer { IfOk result (λ v. TellsGreatest t.now.side t.now.system.now t.now.cases.now t.now.live.now t.now.candidates.now t.now.budget v.items) }
+    ensures answer { IfOk result
+        (λ v. TellsGreatest t.now.side t.now.system.now t.now.cases.now t.now.live.now
+        t.now.candidates.now t.now.budget v.items) }
     ensures fault { IfErr result
         (IsFault t.now.budget
         (RoundsAsk t.now.side
@@ -188,7 +190,7 @@ fn rounds<T: Tableau>(alloc: Global, t: &Lent, tableau: &mut T) -> Result<Vec<Lo
 ///
 /// # Errors
 /// `Past128` and `Budget` exactly where the first problem of the rounds that is refused is refused
-/// so, with its place; what is not solved again equals a problem that came to its end. The tableau
+/// so, with its site; what is not solved again equals a problem that came to its end. The tableau
 /// is left in no state that is told.
 pub fn greatest<T: Tableau>(
     alloc: Global,

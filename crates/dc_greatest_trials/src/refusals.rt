@@ -1,7 +1,7 @@
 //! The first problem that is refused, and how many problems are solved.
 use crate::counting::Counting;
 use crate::subjects::{ENOUGH, family, printed_atoms, read_subject};
-use dc_entail::Place;
+use dc_entail::Site;
 use dc_invariant::InvFault;
 use dc_sparse::Cross;
 use dc_syntax::Side;
@@ -24,7 +24,7 @@ fn pivots_are_spent(rt: HostRuntime) -> Result<(), Fail> {
         matches!(
             family(alloc, &s, &mut Cross::new(alloc), 1),
             Err(InvFault::Budget {
-                place: Place::Edge {
+                site: Site::Edge {
                     side: Side::New,
                     edge: 0
                 }
@@ -44,7 +44,7 @@ fn pivots_pass_128_bits(rt: HostRuntime) -> Result<(), Fail> {
         matches!(
             family(alloc, &s, &mut Cross::new(alloc), 4),
             Err(InvFault::Past128 {
-                place: Place::Edge {
+                site: Site::Edge {
                     side: Side::New,
                     edge: 0
                 },
@@ -56,7 +56,7 @@ fn pivots_pass_128_bits(rt: HostRuntime) -> Result<(), Fail> {
         matches!(
             printed_atoms(alloc, &s, &mut Cross::new(alloc), ENOUGH),
             Err(InvFault::Past128 {
-                place: Place::Edge {
+                site: Site::Edge {
                     side: Side::New,
                     edge: 0
                 },
@@ -68,7 +68,7 @@ fn pivots_pass_128_bits(rt: HostRuntime) -> Result<(), Fail> {
         matches!(
             family(alloc, &s, &mut Cross::new(alloc), 3),
             Err(InvFault::Budget {
-                place: Place::Edge {
+                site: Site::Edge {
                     side: Side::New,
                     edge: 0
                 }

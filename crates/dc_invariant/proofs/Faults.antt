@@ -1,49 +1,37 @@
 -- The first refusal of lists of problems that are joined.
 use Rattle.std.specs.Prelude.{ℕ, List, [], ◌∷◌, ◌++◌, Result, Ok, Err, IfOk, IfErr}
-use Rattle.std.proofs.Common.{refl, subst, inl, inr}
-use Rattle.dc_simplex.specs.declared.SolveFault.{SolveFault}
-use Rattle.dc_simplex.specs.declared.SolveFault.TheVariants as solve
-use Rattle.dc_simplex.specs.Limits.{Past, Out, IsAnswer}
-use Rattle.dc_points.specs.Stated.{rational}
-use Rattle.dc_entail.specs.Answers.{IsSolveFault}
+use Rattle.std.proofs.Common.{inl, inr}
+use Rattle.dc_simplex.specs.Limits.{Past, Out}
 use Rattle.dc_entail.specs.Asked.{Asked, AllDone}
 use Rattle.dc_entail.proofs.Refusals.{refusals_join}
 use Rattle.dc_greatest.specs.declared.family.InvFault.{InvFault}
 use Rattle.dc_greatest.specs.declared.family.InvFault.TheVariants.{Past128, Budget, NoMemory}
-use Rattle.dc_greatest.specs.Placed.{placed}
 use Rattle.dc_greatest.specs.Answers.{IsFault}
-use Rattle.dc_invariant.specs.Lent.{Only}
-
--- of one problem
-pub placed_fault : (budget : ℕ) (q : Asked) (f : SolveFault) → IsSolveFault (rational q.problem) budget f → IsFault budget (Only (q ∷ [])) (placed q.place f)
-placed_fault budget q (solve.Past128 k) h = (q ∷ [], refl, inl (refl, tt, h))
-placed_fault budget q (solve.Budget n) h = (q ∷ [], refl, inl (refl, tt, subst (λ m. IsAnswer (rational q.problem) budget (Out m)) h.1 h))
-placed_fault budget q solve.NoMemory h = tt
 
 -- of other words for the same lists
 pub fault_to : (budget : ℕ) (P Q : List Asked → Type 0) → ((asked : List Asked) → P asked → Q asked) → (f : InvFault) → IsFault budget P f → IsFault budget Q f
-fault_to budget P Q h (Past128 place k) (asked, p, r) = (asked, h asked p, r)
-fault_to budget P Q h (Budget place) (asked, p, r) = (asked, h asked p, r)
+fault_to budget P Q h (Past128 site k) (asked, p, r) = (asked, h asked p, r)
+fault_to budget P Q h (Budget site) (asked, p, r) = (asked, h asked p, r)
 fault_to budget P Q h NoMemory r = tt
 
 -- of a part: whatever was asked before is done, and whatever would be asked after
 pub fault_part : (budget : ℕ) (before after : List Asked) (P Q : List Asked → Type 0) → AllDone budget before → ((asked : List Asked) → P asked → Q (before ++ (asked ++ after)))
     → (f : InvFault) → IsFault budget P f → IsFault budget Q f
-fault_part budget before after P Q d h (Past128 place k) (asked, p, r) =
-    (before ++ (asked ++ after), h asked p, (refusals_join budget before (asked ++ after) place (Past k)).1 (inr (d, (refusals_join budget asked after place (Past k)).1 (inl r))))
-fault_part budget before after P Q d h (Budget place) (asked, p, r) =
-    (before ++ (asked ++ after), h asked p, (refusals_join budget before (asked ++ after) place (Out budget)).1 (inr (d, (refusals_join budget asked after place (Out budget)).1 (inl r))))
+fault_part budget before after P Q d h (Past128 site k) (asked, p, r) =
+    (before ++ (asked ++ after), h asked p, (refusals_join budget before (asked ++ after) site (Past k)).1 (inr (d, (refusals_join budget asked after site (Past k)).1 (inl r))))
+fault_part budget before after P Q d h (Budget site) (asked, p, r) =
+    (before ++ (asked ++ after), h asked p, (refusals_join budget before (asked ++ after) site (Out budget)).1 (inr (d, (refusals_join budget asked after site (Out budget)).1 (inl r))))
 fault_part budget before after P Q d h NoMemory r = tt
 
 -- where what follows depends on the part
 pub fault_before : (budget : ℕ) (before : List Asked) (P Q : List Asked → Type 0) → AllDone budget before
     → ((asked : List Asked) → P asked → (after : List Asked) × Q (before ++ (asked ++ after))) → (f : InvFault) → IsFault budget P f → IsFault budget Q f
-fault_before budget before P Q d h (Past128 place k) (asked, p, r) =
+fault_before budget before P Q d h (Past128 site k) (asked, p, r) =
     let x = h asked p in
-    (before ++ (asked ++ x.0), x.1, (refusals_join budget before (asked ++ x.0) place (Past k)).1 (inr (d, (refusals_join budget asked x.0 place (Past k)).1 (inl r))))
-fault_before budget before P Q d h (Budget place) (asked, p, r) =
+    (before ++ (asked ++ x.0), x.1, (refusals_join budget before (asked ++ x.0) site (Past k)).1 (inr (d, (refusals_join budget asked x.0 site (Past k)).1 (inl r))))
+fault_before budget before P Q d h (Budget site) (asked, p, r) =
     let x = h asked p in
-    (before ++ (asked ++ x.0), x.1, (refusals_join budget before (asked ++ x.0) place (Out budget)).1 (inr (d, (refusals_join budget asked x.0 place (Out budget)).1 (inl r))))
+    (before ++ (asked ++ x.0), x.1, (refusals_join budget before (asked ++ x.0) site (Out budget)).1 (inr (d, (refusals_join budget asked x.0 site (Out budget)).1 (inl r))))
 fault_before budget before P Q d h NoMemory r = tt
 
 -- ---- lists that are done

@@ -20,8 +20,8 @@ use Rattle.dc_cert.specs.declared.certificate.EdgeCert.{EdgeCert}
 use Rattle.dc_cert.specs.declared.certificate.SideCert.{SideCert}
 use Rattle.dc_cert.specs.Ranges.{is_live}
 use Rattle.dc_cert.specs.Vectors.{entry_of}
-use Rattle.dc_entail.specs.declared.answer.Place.{Place}
-use Rattle.dc_entail.specs.declared.answer.Place.TheVariants as place
+use Rattle.dc_entail.specs.declared.answer.Site.{Site}
+use Rattle.dc_entail.specs.declared.answer.Site.TheVariants as site
 use Rattle.dc_entail.specs.Asked.{Asked, ask, IsDone, AllDone}
 use Rattle.dc_points.specs.Points.{MeetsAt, MeetsAll, IsDead, Entails, EntailsFrom}
 use Rattle.dc_points.specs.Stated.{coefficient_of, empty_problem, sup_problem}
@@ -142,7 +142,7 @@ module _ (t : Keeping) (lent : IsKeeping t) where
       shows = shown_keep case t.system.now.params form (at_start t.system.now.params a) t.budget k start_long (λ i l. ap (λ cs. whole_at cs i) e) entry_from h;
     }
 
-    pub entry_fault : (q : Place) (f : InvFault) → IsFault t.budget (Only (ask q (sup_problem case form) ∷ [])) f → IsFault t.budget (Only (ask q (sup_problem case (at_start t.system.now.params a).coefs) ∷ [])) f
+    pub entry_fault : (q : Site) (f : InvFault) → IsFault t.budget (Only (ask q (sup_problem case form) ∷ [])) f → IsFault t.budget (Only (ask q (sup_problem case (at_start t.system.now.params a).coefs) ∷ [])) f
     entry_fault q f h = subst (λ cs. IsFault t.budget (Only (ask q (sup_problem case cs) ∷ [])) f) e h
 
   -- one after another
@@ -154,7 +154,7 @@ module _ (t : Keeping) (lent : IsKeeping t) where
         → EntryKeepsFirst t k case atoms (suc i) new
     entry_next i a l r ks new x h w q =
         kept_next case t.system.now.params (λ a. (at_start t.system.now.params a).coefs) (at_start t.system.now.params) t.budget (atom_at_entry t.side (graph t) t.printed.now k case) atoms i a l r ks new x h w
-        (keep_done case t.system.now.params (at_start t.system.now.params a).coefs (at_start t.system.now.params a) t.budget x (place.KeptEntry t.side k i) w) q
+        (keep_done case t.system.now.params (at_start t.system.now.params a).coefs (at_start t.system.now.params a) t.budget x (site.KeptEntry t.side k i) w) q
 
     pub entry_end : (i : ℕ) (ks : List Sparse) → length atoms ≤ i → EntryKeepsFirst t k case atoms i ks → IsCasePart t k case true ks
     entry_end i ks l h = record {
@@ -285,7 +285,7 @@ module _ (t : Keeping) (lent : IsKeeping t) where
           let w = least_kept k (subst (λ hs. IsLeastKeep hs form t.budget k) e' (subst (λ cs. IsLeastKeep hyps cs t.budget k) s h)) in
           record { vector = w.vector; shows = shown_keep kept places form (atom_after n e a) t.budget k along_long coefficients_same from_kept w }
 
-      pub along_fault : (hyps : List Atom) → hyps ≡ cut → (form' : List ℤ) → form' ≡ form → (q : Place) (f : InvFault)
+      pub along_fault : (hyps : List Atom) → hyps ≡ cut → (form' : List ℤ) → form' ≡ form → (q : Site) (f : InvFault)
           → IsFault t.budget (Only (ask q (sup_problem hyps form') ∷ [])) f → IsFault t.budget (Only (ask q (sup_problem kept form) ∷ [])) f
       along_fault hyps e' form' s q f h = subst (λ p. IsFault t.budget (Only (ask q p ∷ [])) f) (ap₂ sup_problem e' s ∙ same_problem) h
 
@@ -298,7 +298,7 @@ module _ (t : Keeping) (lent : IsKeeping t) where
           → EdgeKeepsFirst t k e atoms (suc i) new
       along_next i a l r ks new x h w s =
           kept_next kept places (λ c. form_after n e c.coefs) (atom_after n e) t.budget (atom_along t.side (graph t) t.printed.now k e) atoms i a l r ks new x h w
-          (keep_done kept places (form_after n e a.coefs) (atom_after n e a) t.budget x (place.KeptAtom t.side k i) w) s
+          (keep_done kept places (form_after n e a.coefs) (atom_after n e a) t.budget x (site.KeptAtom t.side k i) w) s
 
       pub along_end : (i : ℕ) (ks : List Sparse) → length atoms ≤ i → EdgeKeepsFirst t k e atoms i ks → AreKeepsAlong t k e ks
       along_end i ks l h = record {
@@ -316,8 +316,8 @@ module _ (t : Keeping) (lent : IsKeeping t) where
 
     -- ---- the line and the keeps of the edge
     pub edge_dead_done : (k : ℕ) (l : Liveness) → IsLine kept places t.budget l → IsDone t.budget (edge_dead t.side (graph t) t.printed.now k e)
-    edge_dead_done k (Dead x) h = line_done_dead kept places t.budget x (place.KeptEdge t.side k) h
-    edge_dead_done k (Live x) h = line_done_live kept places t.budget x (place.KeptEdge t.side k) h
+    edge_dead_done k (Dead x) h = line_done_dead kept places t.budget x (site.KeptEdge t.side k) h
+    edge_dead_done k (Live x) h = line_done_live kept places t.budget x (site.KeptEdge t.side k) h
 
     module _ (k : ℕ) (l : Liveness) (h : IsLine cut places t.budget l) (f : IsFlag (is_live l) cut) where
       pub dead_part : (x : EdgeCert) → x.live ≡ l → x.keeps ≡ [] → is_live l ≡ false → IsEdgePart t k e x
@@ -360,15 +360,15 @@ module _ (t : Keeping) (lent : IsKeeping t) where
     flag_as hyps b a h = subst (IsFlag b) a h
 
     pub line_fault_as : (k : ℕ) (hyps : List Atom) (p : ℕ) (x : InvFault) → hyps ≡ cut → p ≡ places
-        → IsFault t.budget (Only (ask (place.KeptEdge t.side k) (empty_problem hyps p) ∷ [])) x → IsFault t.budget (Only (ask (place.KeptEdge t.side k) (empty_problem cut places) ∷ [])) x
-    line_fault_as k hyps p x a b h = subst (λ q. IsFault t.budget (Only (ask (place.KeptEdge t.side k) q ∷ [])) x) (ap₂ empty_problem a b) h
+        → IsFault t.budget (Only (ask (site.KeptEdge t.side k) (empty_problem hyps p) ∷ [])) x → IsFault t.budget (Only (ask (site.KeptEdge t.side k) (empty_problem cut places) ∷ [])) x
+    line_fault_as k hyps p x a b h = subst (λ q. IsFault t.budget (Only (ask (site.KeptEdge t.side k) q ∷ [])) x) (ap₂ empty_problem a b) h
 
     -- a refusal of the line
-    pub line_fault : (k : ℕ) (x : InvFault) → IsFault t.budget (Only (ask (place.KeptEdge t.side k) (empty_problem cut places) ∷ [])) x → IsFault t.budget (EdgeAsks t k e) x
+    pub line_fault : (k : ℕ) (x : InvFault) → IsFault t.budget (Only (ask (site.KeptEdge t.side k) (empty_problem cut places) ∷ [])) x → IsFault t.budget (EdgeAsks t k e) x
     line_fault k x r =
         fault_before t.budget [] (Only (edge_dead t.side (graph t) t.printed.now k e ∷ [])) (EdgeAsks t k e) tt
         (λ asked q. by asked q (has_flags (kept ∷ []))) x
-        (subst (λ p. IsFault t.budget (Only (ask (place.KeptEdge t.side k) p ∷ [])) x) (cuts_ask_the_same places (at e.from) e) r)
+        (subst (λ p. IsFault t.budget (Only (ask (site.KeptEdge t.side k) p ∷ [])) x) (cuts_ask_the_same places (at e.from) e) r)
       where
         by : (asked : List Asked) → asked ≡ edge_dead t.side (graph t) t.printed.now k e ∷ [] → (bs : List Bool) × AreFlags bs (kept ∷ []) → (after : List Asked) × EdgeAsks t k e ([] ++ (asked ++ after))
         by asked q ([], g) = absurd g
@@ -507,8 +507,8 @@ module _ (t : Keeping) (lent : IsKeeping t) where
   exit_in = in_atoms (t.system.now.locs - 1)
 
   exit_done : (l : Liveness) → IsLine (exit_atoms (graph t) t.printed.now) n t.budget l → IsDone t.budget (exit_asked t.side (graph t) t.printed.now)
-  exit_done (Dead k) h = line_done_dead (exit_atoms (graph t) t.printed.now) n t.budget k (place.Exit t.side) h
-  exit_done (Live k) h = line_done_live (exit_atoms (graph t) t.printed.now) n t.budget k (place.Exit t.side) h
+  exit_done (Dead k) h = line_done_dead (exit_atoms (graph t) t.printed.now) n t.budget k (site.Exit t.side) h
+  exit_done (Live k) h = line_done_live (exit_atoms (graph t) t.printed.now) n t.budget k (site.Exit t.side) h
 
   abbrev first_asked : List Asked
   first_asked = for_live (entry_asked t.side (graph t) t.printed.now) 0 t.cases.now t.live.now

@@ -9,7 +9,7 @@ use Rattle.dc_math.specs.Members.{Among, each_is, among_range_back}
 use Rattle.dc_affine.specs.declared.atom.Atom.{Atom}
 use Rattle.dc_affine.specs.Atoms.{IsFullAtom}
 use Rattle.dc_system.specs.Shapes.{IsWellFormed}
-use Rattle.dc_entail.specs.declared.answer.Place.TheVariants as place
+use Rattle.dc_entail.specs.declared.answer.Site.TheVariants as site
 use Rattle.dc_entail.specs.Asked.{Asked, ask, IsDone, AllDone}
 use Rattle.dc_points.specs.Stated.{atom_number, sup_problem}
 use Rattle.dc_points.specs.Points.{IsDead, Entails}
@@ -119,8 +119,8 @@ module _ (t : Pruning) (l : ℕ) where
     abbrev q : Question
     q = record { row = r; others = fs ++ h.back }
 
-    same_question : one_asked (place.Prune t.side l r) k atoms ≡ question t l q
-    same_question = ap₂ (λ hs (a : Atom). ask (place.Prune t.side l r) (sup_problem hs a.coefs)) without taken
+    same_question : one_asked (site.Prune t.side l r) k atoms ≡ question t l q
+    same_question = ap₂ (λ hs (a : Atom). ask (site.Prune t.side l r) (sup_problem hs a.coefs)) without taken
 
     decided : Entails (remove atoms k) (atom_number atoms k) → Entails (map atom (fs ++ h.back)) (atom r)
     decided e = subst (λ hs. Entails hs (atom r)) without (subst (Entails (remove atoms k)) taken e)
@@ -128,12 +128,12 @@ module _ (t : Pruning) (l : ℕ) where
     back_decided : Entails (map atom (fs ++ h.back)) (atom r) → Entails (remove atoms k) (atom_number atoms k)
     back_decided e = subst (Entails (remove atoms k)) (sym taken) (subst (λ hs. Entails hs (atom r)) (sym without) e)
 
-    more_done : IsDone t.budget (one_asked (place.Prune t.side l r) k atoms) → AllDone t.budget (map (question t l) (h.asked ++ q ∷ []))
+    more_done : IsDone t.budget (one_asked (site.Prune t.side l r) k atoms) → AllDone t.budget (map (question t l) (h.asked ++ q ∷ []))
     more_done d =
         subst (AllDone t.budget) (sym (map-append (question t l) h.asked (q ∷ [])))
         (done_both t.budget (map (question t l) h.asked) (question t l q ∷ []) h.done (subst (IsDone t.budget) same_question d, tt))
 
-    pub left_next : (new : List Atom) → IsOneStep (place.Prune t.side l r) k t.budget atoms new → IsLeft rows k new
+    pub left_next : (new : List Atom) → IsOneStep (site.Prune t.side l r) k t.budget atoms new → IsLeft rows k new
     left_next new s = by s.step
       where
         by : (Entails (remove atoms k) (atom_number atoms k) × (new ≡ remove atoms k)) ⊎ ((¬ Entails (remove atoms k) (atom_number atoms k)) × (new ≡ atoms)) → IsLeft rows k new
@@ -159,7 +159,7 @@ module _ (t : Pruning) (l : ℕ) where
         }
 
     -- what is asked after it
-    rest_asked : (asked : List Asked) → Only (one_asked (place.Prune t.side l r) k atoms ∷ []) asked → (after : List Asked) × RowsAsk t l rows (map (question t l) h.asked ++ (asked ++ after))
+    rest_asked : (asked : List Asked) → Only (one_asked (site.Prune t.side l r) k atoms ∷ []) asked → (after : List Asked) × RowsAsk t l rows (map (question t l) h.asked ++ (asked ++ after))
     rest_asked asked e = by (entailment_is_decided (map atom (fs ++ h.back)) (atom r))
       where
         told : (qs : List Question) → map (question t l) h.asked ++ (asked ++ map (question t l) qs) ≡ map (question t l) (h.asked ++ (q ∷ qs))
@@ -175,8 +175,8 @@ module _ (t : Pruning) (l : ℕ) where
             let x = has_rest rows k (omega arith) (r ∷ h.back) in
             (map (question t l) x.1, (x.0, h.asked ++ (q ∷ x.1), h.then x.0 (q ∷ x.1) (keeps r split y x.2), told x.1))
 
-    pub left_fault : (f : InvFault) → IsFault t.budget (Only (one_asked (place.Prune t.side l r) k atoms ∷ [])) f → IsFault t.budget (RowsAsk t l rows) f
-    left_fault f i = fault_before t.budget (map (question t l) h.asked) (Only (one_asked (place.Prune t.side l r) k atoms ∷ [])) (RowsAsk t l rows) h.done rest_asked f i
+    pub left_fault : (f : InvFault) → IsFault t.budget (Only (one_asked (site.Prune t.side l r) k atoms ∷ [])) f → IsFault t.budget (RowsAsk t l rows) f
+    left_fault f i = fault_before t.budget (map (question t l) h.asked) (Only (one_asked (site.Prune t.side l r) k atoms ∷ [])) (RowsAsk t l rows) h.done rest_asked f i
 
   -- ---- the rows and atoms of a location
   module _ (lent : IsPruning t) (inside : l < t.system.now.locs) where

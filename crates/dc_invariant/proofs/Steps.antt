@@ -6,7 +6,7 @@ use Rattle.std.proofs.lemmas.List.{take_more, get_or_read, map-id}
 use Rattle.std.proofs.lemmas.List.FromFn.{filter_of_map_range_with_len_more}
 use Rattle.dc_math.specs.Members.{Among, head, tail, each_is}
 use Rattle.dc_affine.specs.declared.atom.Atom.{Atom}
-use Rattle.dc_entail.specs.declared.answer.Place.{Place}
+use Rattle.dc_entail.specs.declared.answer.Site.{Site}
 use Rattle.dc_entail.specs.Asked.{ask, IsDone}
 use Rattle.dc_points.specs.Points.{MeetsAt, IsDead, Entails}
 use Rattle.dc_points.specs.Stated.{atom_number, sup_problem}
@@ -74,20 +74,20 @@ pub live_without : (atoms : List Atom) (k : ℕ) → ¬ IsDead atoms → ¬ IsDe
 live_without atoms k live d = live (λ p m. d p (all_without (MeetsAt p) atoms k m))
 
 -- ---- one step
-module _ (place : Place) (k budget : ℕ) (old : List Atom) (a : Atom) (inside : k < length old) (read : a ≡ slice_index_or old k a) where
+module _ (site : Site) (k budget : ℕ) (old : List Atom) (a : Atom) (inside : k < length old) (read : a ≡ slice_index_or old k a) where
   number : atom_number old k ≡ a
   number = sym (get_or_read old k a inside read (record { c0 = pos 0; coefs = [] }))
 
-  asked_same : (rest : List Atom) → rest ≡ remove old k → ask place (sup_problem rest a.coefs) ≡ one_asked place k old
-  asked_same rest e = ap₂ (λ hs (b : Atom). ask place (sup_problem hs b.coefs)) e (sym number)
+  asked_same : (rest : List Atom) → rest ≡ remove old k → ask site (sup_problem rest a.coefs) ≡ one_asked site k old
+  asked_same rest e = ap₂ (λ hs (b : Atom). ask site (sup_problem hs b.coefs)) e (sym number)
 
-  pub step_out : (rest : List Atom) → rest ≡ remove old k → TellsEntailed place rest a budget true → IsOneStep place k budget old rest
+  pub step_out : (rest : List Atom) → rest ≡ remove old k → TellsEntailed site rest a budget true → IsOneStep site k budget old rest
   step_out rest e t = record {
     done = subst (IsDone budget) (asked_same rest e) t.done;
     step = inl (subst (λ hs. Entails hs (atom_number old k)) e (subst (Entails rest) (sym number) (t.says.0 refl)), e);
   }
 
-  pub step_in : (rest new : List Atom) → rest ≡ remove old k → new ≡ insert rest k a → TellsEntailed place rest a budget false → IsOneStep place k budget old new
+  pub step_in : (rest new : List Atom) → rest ≡ remove old k → new ≡ insert rest k a → TellsEntailed site rest a budget false → IsOneStep site k budget old new
   step_in rest new e i t = record {
     done = subst (IsDone budget) (asked_same rest e) t.done;
     step = inr (
@@ -96,9 +96,9 @@ module _ (place : Place) (k budget : ℕ) (old : List Atom) (a : Atom) (inside :
     );
   }
 
-  pub back_step : (rest : List Atom) → rest ≡ remove old k → (new : List Atom) (r : Result (Unit {0}) InvFault) → OnOk r (new ≡ insert rest k a) → TellsEntailed place rest a budget false → OnOk r (IsOneStep place k budget old new)
+  pub back_step : (rest : List Atom) → rest ≡ remove old k → (new : List Atom) (r : Result (Unit {0}) InvFault) → OnOk r (new ≡ insert rest k a) → TellsEntailed site rest a budget false → OnOk r (IsOneStep site k budget old new)
   back_step rest e new (Ok x) i t = step_in rest new e i t
   back_step rest e new (Err f) i t = tt
 
-  pub step_fault : (rest : List Atom) → rest ≡ remove old k → (f : InvFault) → IsFault budget (Only (ask place (sup_problem rest a.coefs) ∷ [])) f → IsFault budget (Only (one_asked place k old ∷ [])) f
+  pub step_fault : (rest : List Atom) → rest ≡ remove old k → (f : InvFault) → IsFault budget (Only (ask site (sup_problem rest a.coefs) ∷ [])) f → IsFault budget (Only (one_asked site k old ∷ [])) f
   step_fault rest e f h = subst (λ q. IsFault budget (Only (q ∷ [])) f) (asked_same rest e) h

@@ -13,7 +13,7 @@ use Rattle.dc_lp.specs.Problems.{whole_at}
 use Rattle.dc_pivots.specs.declared.Ending.TheVariants.{Optimal, Infeasible}
 use Rattle.dc_cert.specs.declared.sparse.Sparse.{Sparse}
 use Rattle.dc_cert.specs.Vectors.{nonzero_from, entry_of}
-use Rattle.dc_entail.specs.declared.answer.Place.{Place}
+use Rattle.dc_entail.specs.declared.answer.Site.{Site}
 use Rattle.dc_entail.specs.Answers.{TellsDead, TellsLive, TellsLeast, TellsNoBound}
 use Rattle.dc_entail.specs.Asked.{ask, IsDone}
 use Rattle.dc_points.specs.Points.{IsDead, Entails, EntailsFrom}
@@ -41,17 +41,17 @@ full_light n a form l h e = subst (λ cs. sum_by unsigned_abs cs < 2 ^ 70) (sym 
 as_atom : (hyps : List Atom) (a : Atom) (form : List ℤ) → form ≡ a.coefs → Entails hyps a ↔ EntailsFrom hyps form (of_ℤ a.c0)
 as_atom hyps a form e = let k = atoms_are_forms hyps a.coefs a.c0 in ((λ h. subst (λ f. EntailsFrom hyps f (of_ℤ a.c0)) (sym e) (k.0 h)), (λ h. k.1 (subst (λ f. EntailsFrom hyps f (of_ℤ a.c0)) e h)))
 
-module _ (place : Place) (hyps : List Atom) (a : Atom) (form : List ℤ) (budget : ℕ) (e : form ≡ a.coefs) where
-  pub entailed_least : (v : Frac) (mult : List Frac) (b : Bool) → TellsLeast hyps form budget v mult → IsTrue b ↔ (value v ≤ℚ of_ℤ a.c0) → TellsEntailed place hyps a budget b
+module _ (site : Site) (hyps : List Atom) (a : Atom) (form : List ℤ) (budget : ℕ) (e : form ≡ a.coefs) where
+  pub entailed_least : (v : Frac) (mult : List Frac) (b : Bool) → TellsLeast hyps form budget v mult → IsTrue b ↔ (value v ≤ℚ of_ℤ a.c0) → TellsEntailed site hyps a budget b
   entailed_least v mult b t h = record {
     says = ((λ k. (as_atom hyps a form e).1 ((t.least (of_ℤ a.c0)).1 (h.0 k))), (λ k. h.1 ((t.least (of_ℤ a.c0)).0 ((as_atom hyps a form e).0 k))));
-    done = subst (λ f. IsDone budget (ask place (sup_problem hyps f))) e (t.outcome.comes.pivots, Optimal, t.outcome.table, t.outcome.comes.answer);
+    done = subst (λ f. IsDone budget (ask site (sup_problem hyps f))) e (t.outcome.comes.pivots, Optimal, t.outcome.table, t.outcome.comes.answer);
   }
 
-  pub entailed_none : (y : List Frac) → TellsNoBound hyps form budget y → TellsEntailed place hyps a budget false
+  pub entailed_none : (y : List Frac) → TellsNoBound hyps form budget y → TellsEntailed site hyps a budget false
   entailed_none y t = record {
     says = ((λ k. differ (sym k)), (λ k. absurd (t.none (of_ℤ a.c0) ((as_atom hyps a form e).0 k))));
-    done = subst (λ f. IsDone budget (ask place (sup_problem hyps f))) e (t.outcome.comes.pivots, Infeasible, t.outcome.table, t.outcome.comes.answer);
+    done = subst (λ f. IsDone budget (ask site (sup_problem hyps f))) e (t.outcome.comes.pivots, Infeasible, t.outcome.table, t.outcome.comes.answer);
   }
 
 -- ---- keeps
@@ -76,8 +76,8 @@ shown_keep hyps n form a budget k e s h t = record {
   constant = subst (λ c. c ≤ℚ of_ℤ a.c0) (sym t.combines.constant) ((t.least (of_ℤ a.c0)).0 h);
 }
 
-pub keep_done : (hyps : List Atom) (n : ℕ) (form : List ℤ) (a : Atom) (budget : ℕ) (k : Sparse) (place : Place) → IsKeep hyps n form a budget k → IsDone budget (ask place (sup_problem hyps form))
-keep_done hyps n form a budget k place h = (h.vector.outcome.comes.pivots, Optimal, h.vector.outcome.table, h.vector.outcome.comes.answer)
+pub keep_done : (hyps : List Atom) (n : ℕ) (form : List ℤ) (a : Atom) (budget : ℕ) (k : Sparse) (site : Site) → IsKeep hyps n form a budget k → IsDone budget (ask site (sup_problem hyps form))
+keep_done hyps n form a budget k site h = (h.vector.outcome.comes.pivots, Optimal, h.vector.outcome.table, h.vector.outcome.comes.answer)
 
 -- ---- lines
 pub dead_line : (hyps : List Atom) (n budget : ℕ) (mult : List Frac) (k : Sparse) → TellsDead hyps n budget mult → k.items ≡ nonzero_from 0 mult → IsDeadLine hyps n budget k
@@ -98,8 +98,8 @@ dead_flag hyps d = ((λ t. differ (sym t)), (λ n. absurd (n d)))
 pub live_flag : (hyps : List Atom) → ¬ IsDead hyps → IsFlag true hyps
 live_flag hyps n = ((λ t. n), (λ m. refl))
 
-pub line_done_dead : (hyps : List Atom) (n budget : ℕ) (k : Sparse) (place : Place) → IsDeadLine hyps n budget k → IsDone budget (ask place (empty_problem hyps n))
-line_done_dead hyps n budget k place h = (h.vector.outcome.comes.pivots, Optimal, h.vector.outcome.table, h.vector.outcome.comes.answer)
+pub line_done_dead : (hyps : List Atom) (n budget : ℕ) (k : Sparse) (site : Site) → IsDeadLine hyps n budget k → IsDone budget (ask site (empty_problem hyps n))
+line_done_dead hyps n budget k site h = (h.vector.outcome.comes.pivots, Optimal, h.vector.outcome.table, h.vector.outcome.comes.answer)
 
-pub line_done_live : (hyps : List Atom) (n budget : ℕ) (k : Sparse) (place : Place) → IsLiveLine hyps n budget k → IsDone budget (ask place (empty_problem hyps n))
-line_done_live hyps n budget k place h = (h.vector.outcome.comes.pivots, Infeasible, h.vector.outcome.table, h.vector.outcome.comes.answer)
+pub line_done_live : (hyps : List Atom) (n budget : ℕ) (k : Sparse) (site : Site) → IsLiveLine hyps n budget k → IsDone budget (ask site (empty_problem hyps n))
+line_done_live hyps n budget k site h = (h.vector.outcome.comes.pivots, Infeasible, h.vector.outcome.table, h.vector.outcome.comes.answer)

@@ -8,7 +8,7 @@ use Rattle.dc_cert.specs.declared.sparse.Sparse.{Sparse}
 use Rattle.dc_cert.specs.declared.certificate.EdgeCert.{EdgeCert}
 use Rattle.dc_cert.specs.declared.certificate.SideCert.{SideCert}
 use Rattle.dc_cert.specs.Ranges.{is_live}
-use Rattle.dc_entail.specs.declared.answer.Place.TheVariants as place
+use Rattle.dc_entail.specs.declared.answer.Site.TheVariants as site
 use Rattle.dc_points.specs.Stated.{empty_problem, sup_problem}
 use Rattle.dc_points.specs.Shown.{AreFlags}
 use Rattle.dc_entail.specs.Asked.{Asked, ask}
@@ -37,31 +37,32 @@ module _ (s : Graph) (printed : List (List Atom)) where
   abbrev pub AreLive : List Bool → Type 0
   AreLive flags = AreFlags flags (map kept_atoms s.edges)
 
--- ---- the problems: case by case how the case shows each printed atom of the entry; then edge by edge whether it is dead and, where it
--- is live, how it shows each printed atom of its target; then whether the exit is dead
+-- ---- the problems: case by case how the case shows each printed atom of the entry; then edge by
+-- edge whether it is dead and, where it is live, how it shows each printed atom of its target; then
+-- whether the exit is dead
 module _ (side : Side) (s : Graph) (printed : List (List Atom)) where
   abbrev pub atom_at_entry : ℕ → List Atom → ℕ → Atom → Asked
   atom_at_entry k case i a =
-      ask (place.KeptEntry side k i) (sup_problem case (at_start s.params a).coefs)
+      ask (site.KeptEntry side k i) (sup_problem case (at_start s.params a).coefs)
 
   abbrev pub entry_asked : ℕ → List Atom → List Asked
   entry_asked k case = numbered (atom_at_entry k case) 0 (printed_at s printed 0)
 
   abbrev pub atom_along : ℕ → Edge → ℕ → Atom → Asked
   atom_along k e i a =
-      ask (place.KeptAtom side k i)
+      ask (site.KeptAtom side k i)
       (sup_problem (kept_atoms s printed e) (form_after s.vars e a.coefs))
 
   abbrev pub edge_dead : ℕ → Edge → Asked
   edge_dead k e =
-      ask (place.KeptEdge side k) (empty_problem (kept_atoms s printed e) (edge_places s.vars e))
+      ask (site.KeptEdge side k) (empty_problem (kept_atoms s printed e) (edge_places s.vars e))
 
   abbrev pub edge_asked : ℕ → Edge → Bool → List Asked
   edge_asked k e live =
       edge_dead k e ∷ (if live then numbered (atom_along k e) 0 (printed_at s printed e.to) else [])
 
   abbrev pub exit_asked : Asked
-  exit_asked = ask (place.Exit side) (empty_problem (exit_atoms s printed) s.vars)
+  exit_asked = ask (site.Exit side) (empty_problem (exit_atoms s printed) s.vars)
 
   abbrev pub keeps_asked : List (List Atom) → List Bool → List Bool → List Asked
   keeps_asked cases live flags =

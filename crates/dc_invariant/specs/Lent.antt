@@ -13,7 +13,7 @@ use Rattle.dc_program.specs.Programs.{IsCondition}
 use Rattle.dc_cert.specs.declared.sparse.Sparse.{Sparse}
 use Rattle.dc_cert.specs.declared.certificate.EdgeCert.{EdgeCert}
 use Rattle.dc_cert.specs.Vectors.{entry_of}
-use Rattle.dc_entail.specs.declared.answer.Place.{Place}
+use Rattle.dc_entail.specs.declared.answer.Site.{Site}
 use Rattle.dc_points.specs.Points.{IsDead, Entails, EntailsFrom}
 use Rattle.dc_points.specs.Stated.{atom_number, sup_problem}
 use Rattle.dc_points.specs.Shown.{IsFlag, AreFlags, CombinesTo}
@@ -40,10 +40,10 @@ Only ps asked = asked ≡ ps
 
 -- ---- one problem
 -- the answer says whether the atom is entailed, and its problem comes to its end
-pub record TellsEntailed (place : Place) (hyps : List Atom) (a : Atom) (budget : ℕ)
+pub record TellsEntailed (site : Site) (hyps : List Atom) (a : Atom) (budget : ℕ)
     (answer : Bool) : Type 0 where
   pub says : (answer ≡ true) ↔ Entails hyps a
-  pub done : IsDone budget (ask place (sup_problem hyps a.coefs))
+  pub done : IsDone budget (ask site (sup_problem hyps a.coefs))
 
 -- the multipliers combine the list to the form and the least number from which on it is entailed
 pub record IsLeastKeep (hyps : List Atom) (form : List ℤ) (budget : ℕ) (k : Sparse) : Type 0 where
@@ -57,12 +57,12 @@ HasBound hyps form = (w : ℚ) × EntailsFrom hyps form w
 
 -- ---- pruning
 -- one atom of a list, and what is asked of it over the others
-abbrev pub one_asked : Place → ℕ → List Atom → Asked
-one_asked place k atoms = ask place (sup_problem (remove atoms k) (atom_number atoms k).coefs)
+abbrev pub one_asked : Site → ℕ → List Atom → Asked
+one_asked site k atoms = ask site (sup_problem (remove atoms k) (atom_number atoms k).coefs)
 
 -- it is left out where the others entail it
-pub record IsOneStep (place : Place) (k budget : ℕ) (old new : List Atom) : Type 0 where
-  pub done : IsDone budget (one_asked place k old)
+pub record IsOneStep (site : Site) (k budget : ℕ) (old new : List Atom) : Type 0 where
+  pub done : IsDone budget (one_asked site k old)
   pub step : (Entails (remove old k) (atom_number old k) × (new ≡ remove old k))
       ⊎ ((¬ Entails (remove old k) (atom_number old k)) × (new ≡ old))
 

@@ -2,7 +2,7 @@
 use Rattle.std.specs.Prelude.{◌≡◌, ℕ, suc, List, [], ◌∷◌, ◌++◌, map}
 use Rattle.dc_syntax.specs.declared.tree.Side.{Side}
 use Rattle.dc_affine.specs.declared.atom.Atom.{Atom}
-use Rattle.dc_entail.specs.declared.answer.Place.TheVariants as place
+use Rattle.dc_entail.specs.declared.answer.Site.TheVariants as site
 use Rattle.dc_points.specs.Stated.{sup_problem}
 use Rattle.dc_entail.specs.Asked.{Asked, ask}
 use Rattle.dc_rows.specs.declared.kinds.Candidates.{Candidates}
@@ -15,7 +15,7 @@ module _ (side : Side) (c : Candidates) (J : Family) where
   -- from which bound on the atoms of other rows entail a row
   abbrev pub question_asked : ℕ → Question → Asked
   question_asked l q =
-      ask (place.Prune side l q.row) (sup_problem (atoms_of c J l q.others) (row_at c q.row))
+      ask (site.Prune side l q.row) (sup_problem (atoms_of c J l q.others) (row_at c q.row))
 
   -- location by location, where the first has number l
   abbrev pub questions_asked : ℕ → List (List Question) → List Asked

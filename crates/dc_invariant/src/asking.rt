@@ -1,4 +1,4 @@
-//! One problem of an analysis at its place.
+//! One problem of an analysis at its site.
 ghost use Rattle.std.specs.Prelude.{◌≡◌, ◌↔◌, ◌≤◌, ◌<◌, ◌^◌, ◌∷◌, [], IsTrue, IfOk, IfErr, length, sum_by, unsigned_abs};
 ghost use Rattle.std.specs.List.{AllByRecursion};
 ghost use Rattle.dc_math.specs.Rational.{of_ℤ, ◌≤ℚ◌};
@@ -15,7 +15,7 @@ ghost use Rattle.dc_invariant.specs.Lent.{Only, TellsEntailed, IsLeastKeep, HasB
 
 use dc_affine::Atom;
 use dc_cert::{Liveness, Sparse, sparse_of};
-use dc_entail::{Emptiness, Place, Sup, empty, sup};
+use dc_entail::{Emptiness, Site, Sup, empty, sup};
 use dc_frac::Frac;
 use dc_greatest::InvFault;
 use dc_lp::Tableau;
@@ -46,7 +46,7 @@ fn is_at_most(value: &Frac, bound: &i64) -> bool
 /// entailed.
 pub(crate) fn entails<T: Tableau>(
     alloc: Global,
-    place: Place,
+    site: Site,
     hyps: &[Atom],
     atom: &Atom,
     vars: usize,
@@ -57,22 +57,22 @@ pub(crate) fn entails<T: Tableau>(
     requires atoms { AllByRecursion (IsFullAtom vars) hyps.now }
     requires atom { IsFullAtom vars atom.now }
     requires live { ¬ IsDead hyps.now }
-    ensures answer { IfOk result (TellsEntailed place hyps.now atom.now budget) }
+    ensures answer { IfOk result (TellsEntailed site hyps.now atom.now budget) }
     ensures fault { IfErr result
-        (IsFault budget (Only (ask place (sup_problem hyps.now atom.now.coefs) ∷ []))) }
+        (IsFault budget (Only (ask site (sup_problem hyps.now atom.now.coefs) ∷ []))) }
 {
     let form = first_numbers(alloc, atom.coefs.as_slice(), vars)?;
     match sup(alloc, hyps, &form, tableau, budget) {
         Ok(Sup::At { value, .. }) => Ok(is_at_most(&value, &atom.c0)),
         Ok(Sup::NoBound { .. }) => Ok(false),
-        Err(fault) => Err(InvFault::at(place, fault)),
+        Err(fault) => Err(InvFault::at(site, fault)),
     }
 }
 
 /// The multipliers of a form and of the least number from which it is entailed, where there is one.
 pub(crate) fn keep<T: Tableau>(
     alloc: Global,
-    place: Place,
+    site: Site,
     hyps: &[Atom],
     form: &[i128],
     tableau: &mut T,
@@ -84,19 +84,19 @@ pub(crate) fn keep<T: Tableau>(
     requires bounded { HasBound hyps.now form.now }
     ensures answer { IfOk result (IsLeastKeep hyps.now form.now budget) }
     ensures fault { IfErr result
-        (IsFault budget (Only (ask place (sup_problem hyps.now form.now) ∷ []))) }
+        (IsFault budget (Only (ask site (sup_problem hyps.now form.now) ∷ []))) }
 {
     match sup(alloc, hyps, form, tableau, budget) {
         Ok(Sup::At { mult, .. }) => Ok(sparse_of(alloc, &mult)?),
         Ok(Sup::NoBound { .. }) => unreachable!(),
-        Err(fault) => Err(InvFault::at(place, fault)),
+        Err(fault) => Err(InvFault::at(site, fault)),
     }
 }
 
 /// The line that says whether a list is dead, and shows it.
 pub(crate) fn line<T: Tableau>(
     alloc: Global,
-    place: Place,
+    site: Site,
     hyps: &[Atom],
     places: usize,
     tableau: &mut T,
@@ -106,11 +106,11 @@ pub(crate) fn line<T: Tableau>(
     ensures answer { IfOk result (IsLine hyps.now places budget) }
     ensures flag { IfOk result (λ l. IsFlag (is_live l) hyps.now) }
     ensures fault { IfErr result
-        (IsFault budget (Only (ask place (empty_problem hyps.now places) ∷ []))) }
+        (IsFault budget (Only (ask site (empty_problem hyps.now places) ∷ []))) }
 {
     match empty(alloc, hyps, places, tableau, budget) {
         Ok(Emptiness::Dead { mult }) => Ok(Liveness::Dead(sparse_of(alloc, &mult)?)),
         Ok(Emptiness::Live { y }) => Ok(Liveness::Live(sparse_of(alloc, &y)?)),
-        Err(fault) => Err(InvFault::at(place, fault)),
+        Err(fault) => Err(InvFault::at(site, fault)),
     }
 }

@@ -21,7 +21,7 @@ ghost use Rattle.dc_invariant.specs.Lent.{Only, IsKeeping, graph, case_asked, Is
 use crate::asking::{keep, line};
 use dc_affine::Atom;
 use dc_cert::{EdgeCert, Liveness, SideCert, Sparse};
-use dc_entail::Place;
+use dc_entail::Site;
 use dc_greatest::InvFault;
 use dc_lp::Tableau;
 use dc_moves::{copy_atoms, edge_places, first_numbers, with_guard};
@@ -84,12 +84,12 @@ fn entry_keep<T: Tableau>(
         (graph t.now) t.now.printed.now case_number case.now number atom.now ∷ []))) }
 {
     let form = first_numbers(alloc, atom.coefs.as_slice(), t.system.params)?;
-    let place = Place::KeptEntry {
+    let site = Site::KeptEntry {
         side: t.side,
         case: case_number,
         atom: number,
     };
-    keep(alloc, place, case, &form, tableau, t.budget)
+    keep(alloc, site, case, &form, tableau, t.budget)
 }
 
 /// How a live case shows each printed atom of the entry.
@@ -188,12 +188,12 @@ fn edge_keep<T: Tableau>(
     let places = edge_places(vars, edge);
     let row = row_after(alloc, edge, atom.coefs.as_slice(), vars)?;
     let form = &row.coefs.as_slice()[..places];
-    let place = Place::KeptAtom {
+    let site = Site::KeptAtom {
         side: t.side,
         edge: edge_number,
         atom: number,
     };
-    keep(alloc, place, hyps, form, tableau, t.budget)
+    keep(alloc, site, hyps, form, tableau, t.budget)
 }
 
 /// How a live edge shows each printed atom of its target.
@@ -240,11 +240,11 @@ fn edge_part<T: Tableau>(
 {
     let places = edge_places(t.system.vars, edge);
     let hyps = edge_atoms(alloc, t, edge)?;
-    let place = Place::KeptEdge {
+    let site = Site::KeptEdge {
         side: t.side,
         edge: edge_number,
     };
-    let live = match line(alloc, place, &hyps, places, tableau, t.budget) {
+    let live = match line(alloc, site, &hyps, places, tableau, t.budget) {
         Ok(live) => live,
         Err(fault) => return Err(fault),
     };
@@ -287,8 +287,8 @@ fn exit_line<T: Tableau>(alloc: Global, t: &Keeping, tableau: &mut T) -> Result<
         (IsFault t.now.budget (Only (exit_asked t.now.side (graph t.now) t.now.printed.now ∷ []))) }
 {
     let atoms = atoms_of(t, t.system.locs - 1);
-    let place = Place::Exit { side: t.side };
-    line(alloc, place, atoms, t.system.vars, tableau, t.budget)
+    let site = Site::Exit { side: t.side };
+    line(alloc, site, atoms, t.system.vars, tableau, t.budget)
 }
 
 /// The side of a certificate: the printed atoms that are handed in, for each live case of the
@@ -298,7 +298,7 @@ fn exit_line<T: Tableau>(alloc: Global, t: &Keeping, tableau: &mut T) -> Result<
 ///
 /// # Errors
 /// `Past128` and `Budget` exactly where the first of these problems that does not come to its end
-/// has them, with its place. After a refusal the printed atoms are given up. The tableau is lent as
+/// has them, with its site. After a refusal the printed atoms are given up. The tableau is lent as
 /// working space and left in no state that is told.
 pub fn keep_proofs<T: Tableau>(
     alloc: Global,

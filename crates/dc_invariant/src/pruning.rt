@@ -16,7 +16,7 @@ ghost use Rattle.dc_invariant.specs.Lent.{Only, IsPruning, family, one_asked, Is
 
 use crate::asking::entails;
 use dc_affine::Atom;
-use dc_entail::Place;
+use dc_entail::Site;
 use dc_greatest::{Family, InvFault, LocFamily};
 use dc_lp::Tableau;
 use dc_moves::row_atom;
@@ -125,7 +125,7 @@ fn put_back(atoms: &mut Vec<Atom>, number: usize, atom: Atom) -> Result<(), InvF
 /// Takes one of some atoms out, where the others entail it.
 fn prune_one<T: Tableau>(
     alloc: Global,
-    place: Place,
+    site: Site,
     number: usize,
     atoms: &mut Vec<Atom>,
     vars: usize,
@@ -136,11 +136,11 @@ fn prune_one<T: Tableau>(
     requires inside { number < length atoms.old.items }
     requires atoms { AllByRecursion (IsFullAtom vars) atoms.old.items }
     requires live { ¬ IsDead atoms.old.items }
-    ensures answer { OnOk result (IsOneStep place number budget atoms.old.items atoms.new.items) }
-    ensures fault { IfErr result (IsFault budget (Only (one_asked place number atoms.old.items ∷ []))) }
+    ensures answer { OnOk result (IsOneStep site number budget atoms.old.items atoms.new.items) }
+    ensures fault { IfErr result (IsFault budget (Only (one_asked site number atoms.old.items ∷ []))) }
 {
     let atom = atoms.remove(number);
-    match entails(alloc, place, atoms, &atom, vars, tableau, budget) {
+    match entails(alloc, site, atoms, &atom, vars, tableau, budget) {
         Ok(true) => Ok(()),
         Ok(false) => put_back(atoms, number, atom),
         Err(fault) => Err(fault),
@@ -164,14 +164,14 @@ fn prune_atoms<T: Tableau>(
     let mut left = rows.len();
     while left > 0 {
         left -= 1;
-        let place = Place::Prune {
+        let site = Site::Prune {
             side: t.side,
             location,
             row: rows[left],
         };
         match prune_one(
             alloc,
-            place,
+            site,
             left,
             &mut atoms,
             t.system.vars,
@@ -216,7 +216,7 @@ fn printed_at<T: Tableau>(
 ///
 /// # Errors
 /// `Past128` and `Budget` exactly where the first problem of pruning that does not come to its end
-/// has them, with its place. The tableau is lent as working space and left in no state that is
+/// has them, with its site. The tableau is lent as working space and left in no state that is
 /// told.
 pub fn prune<T: Tableau>(
     alloc: Global,

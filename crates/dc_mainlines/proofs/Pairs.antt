@@ -34,7 +34,7 @@ halves v = by (le_ℚ (of_ℤ (pos 0)) v)
     by true = ring (v ∷ []) (λ ρ i. simp (i, read_nat ρ, reads) (same_form _ _ _ refl))
     by false = ring (v ∷ []) (λ ρ i. simp (i, read_nat ρ, reads) (same_form _ _ _ refl))
 
--- ---- places: behind u pairs stands place j
+-- ---- indices: behind u pairs stands index j
 abbrev pub behind : ℕ → ℕ → ℕ
 behind zero j = j
 behind (suc u) j = suc (suc (behind u j))
@@ -43,19 +43,25 @@ pub behind-is : (u j : ℕ) → behind u j ≡ u * 2 + j
 behind-is zero j = omega arith
 behind-is (suc u) j = let e = behind-is u j in omega arith
 
--- which place a column is
-pub data Place (u j : ℕ) : Type 0 where
-  first_of : (k : ℕ) → k < u → j ≡ k * 2 → Place u j
-  second_of : (k : ℕ) → k < u → j ≡ suc (k * 2) → Place u j
-  after : u * 2 ≤ j → Place u j
+pub plus_index : (k : ℕ) → behind k 0 ≡ k * 2
+plus_index k = behind-is k 0 ∙ (let e : k * 2 + 0 ≡ k * 2 = omega arith in e)
 
-pub place : (u j : ℕ) → Place u j
-place zero j = after (omega arith)
-place (suc u) zero = first_of 0 (omega arith) (omega arith)
-place (suc u) (suc zero) = second_of 0 (omega arith) (omega arith)
-place (suc u) (suc (suc j)) = by (place u j)
+pub minus_index : (k : ℕ) → behind k 1 ≡ suc (k * 2)
+minus_index k = behind-is k 1 ∙ (let e : k * 2 + 1 ≡ suc (k * 2) = omega arith in e)
+
+-- whose an index is: the first or the second of an unknown, or one behind all pairs
+pub data Owner (u j : ℕ) : Type 0 where
+  first_of : (k : ℕ) → k < u → j ≡ k * 2 → Owner u j
+  second_of : (k : ℕ) → k < u → j ≡ suc (k * 2) → Owner u j
+  after : u * 2 ≤ j → Owner u j
+
+pub owner : (u j : ℕ) → Owner u j
+owner zero j = after (omega arith)
+owner (suc u) zero = first_of 0 (omega arith) (omega arith)
+owner (suc u) (suc zero) = second_of 0 (omega arith) (omega arith)
+owner (suc u) (suc (suc j)) = by (owner u j)
   where
-    by : Place u j → Place (suc u) (suc (suc j))
+    by : Owner u j → Owner (suc u) (suc (suc j))
     by (first_of k l e) = first_of (suc k) (omega arith) (omega arith)
     by (second_of k l e) = second_of (suc k) (omega arith) (omega arith)
     by (after l) = after (omega arith)

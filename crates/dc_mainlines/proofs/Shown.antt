@@ -20,7 +20,7 @@ use Rattle.dc_clauses.specs.Lines.{at, is, is_at_most}
 use Rattle.dc_clauses.specs.Mains.{multipliers, short_column, short_coefficient, short_value, left_fold, price_fold, right_fold, range_steps, sign_steps, sign_step, equation_test, equation_tests, price_test, price_tests, threshold_tests, ray_tests, fall_tests, claim_steps}
 use Rattle.dc_mainlines.specs.Paired.{IsPaired}
 use Rattle.dc_mainlines.specs.Laws.{StepsShow, IsLeastCost}
-use Rattle.dc_mainlines.proofs.Pairs.{behind, behind-is, Place, first_of, second_of, after, place, vector, vector_sign, sum_split, vector_sum}
+use Rattle.dc_mainlines.proofs.Pairs.{behind, behind-is, plus_index, minus_index, Owner, first_of, second_of, after, owner, vector, vector_sign, sum_split, vector_sum}
 use Rattle.dc_mainlines.proofs.Tested.{holds_first, holds_second, numbered, both_parts, is_sum, at_most_sum, equal_sum, positive_sum, same_number, negative_number, positive_items}
 
 -- sums that are the same number
@@ -41,12 +41,6 @@ module _ (m : Linear ℤ) (u : ℕ) (h : IsPaired m u) where
   short_times : (k : ℕ) → short_column m u (u + k) ≡ behind u k
   short_times k = ap (λ b. if b then (u + k) * 2 else u + (u + k)) (le-ltb (u + k) u (omega arith)) ∙ (let e = behind-is u k in let g : u + (u + k) ≡ behind u k = omega arith in g)
 
-  plus_place : (k : ℕ) → behind k 0 ≡ k * 2
-  plus_place k = behind-is k 0 ∙ (let e : k * 2 + 0 ≡ k * 2 = omega arith in e)
-
-  minus_place : (k : ℕ) → behind k 1 ≡ suc (k * 2)
-  minus_place k = behind-is k 1 ∙ (let e : k * 2 + 1 ≡ suc (k * 2) = omega arith in e)
-
   -- ---- vectors
   vector_of : Sparse → Sparse → ℕ → ℚ
   vector_of unknown lambda = vector u (at unknown) (at lambda)
@@ -65,9 +59,9 @@ module _ (m : Linear ℤ) (u : ℕ) (h : IsPaired m u) where
   whole_sum c unknown lambda g =
       ap (λ n. sum_ℚ n (λ j. of_ℤ (c j) *ℚ vector u (at unknown) (at lambda) j)) columns_are
       ∙ vector_sum u (multipliers m u) (λ j. of_ℤ (c j)) (at unknown) (at lambda)
-      (λ k l. ap (λ j. of_ℤ (c j)) (minus_place k) ∙ ap of_ℤ (g k l) ∙ of_ℤ-neg_ℤ (c (k * 2)) ∙ ap (λ j. neg_ℚ (of_ℤ (c j))) (sym (plus_place k)))
+      (λ k l. ap (λ j. of_ℤ (c j)) (minus_index k) ∙ ap of_ℤ (g k l) ∙ of_ℤ-neg_ℤ (c (k * 2)) ∙ ap (λ j. neg_ℚ (of_ℤ (c j))) (sym (plus_index k)))
       ∙ ap (λ z. z +ℚ sum_ℚ (multipliers m u) (λ k. of_ℤ (c (behind u k)) *ℚ at lambda k))
-      (sum_ℚ_same u (λ k. of_ℤ (c (behind k 0)) *ℚ at unknown k) (λ k. of_ℤ (c (k * 2)) *ℚ at unknown k) (λ k l. ap (λ j. of_ℤ (c j) *ℚ at unknown k) (plus_place k)))
+      (sum_ℚ_same u (λ k. of_ℤ (c (behind k 0)) *ℚ at unknown k) (λ k. of_ℤ (c (k * 2)) *ℚ at unknown k) (λ k l. ap (λ j. of_ℤ (c j) *ℚ at unknown k) (plus_index k)))
 
   -- the same as a sum over the short columns
   short_sum : (i : ℕ) (unknown lambda : Sparse)
@@ -149,9 +143,9 @@ module _ (m : Linear ℤ) (u : ℕ) (h : IsPaired m u) where
   module _ (cost : ℕ → ℤ) (minus_cost : (k : ℕ) → k < u → cost (suc (k * 2)) ≡ neg_ℤ (cost (k * 2))) (free : (j : ℕ) → u * 2 ≤ j → cost j ≡ pos 0) (dual : Sparse)
       (e : (k : ℕ) → k < u + multipliers m u → price_test m u cost dual k ≡ Some true) where
     prices : (j : ℕ) → j < m.columns → combined (rational m) (at dual) j ≤ℚ of_ℤ (cost j)
-    prices j l = by (place u j)
+    prices j l = by (owner u j)
       where
-        by : Place u j → combined (rational m) (at dual) j ≤ℚ of_ℤ (cost j)
+        by : Owner u j → combined (rational m) (at dual) j ≤ℚ of_ℤ (cost j)
         by (first_of k g q) = subst (λ n. combined (rational m) (at dual) n ≤ℚ of_ℤ (cost n)) (sym q) (≤ℚ_same _ _ (plus_price cost dual k g (e k (omega arith))))
         by (second_of k g q) =
             subst (λ n. combined (rational m) (at dual) n ≤ℚ of_ℤ (cost n)) (sym q)

@@ -32,11 +32,11 @@ pub fn sign_failure(items: &[Item]) -> Option<Step>
     None
 }
 
-/// The number at a place, 0 where there is none.
-fn number_at(numbers: &[i128], place: usize) -> i128
-    ensures { result ≡ whole_at numbers.now place }
+/// The number at an index, 0 where there is none.
+fn number_at(numbers: &[i128], index: usize) -> i128
+    ensures { result ≡ whole_at numbers.now index }
 {
-    match numbers.get(place) {
+    match numbers.get(index) {
         Some(number) => *number,
         None => 0,
     }

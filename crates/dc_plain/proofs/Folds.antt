@@ -16,7 +16,7 @@ use Rattle.dc_system.specs.Spots.{Net}
 use Rattle.dc_system.proofs.Crossings.{made_by}
 use Rattle.dc_system.proofs.Folds.{Joined, joined_at, first_in, second_in, first_to, second_from, was}
 use Rattle.dc_system.proofs.Renumbered.{foldings_keep, starts}
-use Rattle.dc_folding.proofs.Numbers.{place_before, place_before_is, entry_before, exit_before}
+use Rattle.dc_folding.proofs.Numbers.{location_before, location_before_is, entry_before, exit_before}
 use Rattle.dc_plain.proofs.Prices.{ArePaid, IsPaid}
 
 -- ---- a composed edge costs what both cost
@@ -56,7 +56,7 @@ module _ (s t : System) (c : ℤ) (w : IsWellFormed s) (F : IsFolded s t) (h : I
   net = (foldings_keep s.vars (s.locs - 1) (numbers_below s.locs) s.edges w.few_vars (starts s w) F.folding).net
 
   abbrev price_now : ℕ → ℤ
-  price_now m = h.price (place_before last F.left net m)
+  price_now m = h.price (location_before last F.left net m)
 
   edges_now : ArePaid (map (renumbered F.left) F.edges) price_now
   edges_now g i y =
@@ -64,7 +64,7 @@ module _ (s t : System) (c : ℤ) (w : IsWellFormed s) (F : IsFolded s t) (h : I
       let k = fold_pays s.vars (s.locs - 1) (numbers_below s.locs) s.edges h.price h.edges F.folding m.of m.among y in
       let b = net.between m.of m.among in
       subst (λ (g : Edge). value g.cost.terms y ≡ price_now g.from -ℤ price_now g.to) (sym m.is)
-      (k ∙ ap₂ (λ i j. h.price i -ℤ h.price j) (sym (place_before_is last F.left net m.of.from b.0)) (sym (place_before_is last F.left net m.of.to b.1)))
+      (k ∙ ap₂ (λ i j. h.price i -ℤ h.price j) (sym (location_before_is last F.left net m.of.from b.0)) (sym (location_before_is last F.left net m.of.to b.1)))
 
   pub folded_paid : IsPaid t c
   folded_paid = subst (λ t. IsPaid t c) (sym F.is) (record {

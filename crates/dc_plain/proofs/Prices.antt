@@ -64,7 +64,7 @@ paying_in n c _ h = cc
 paying : (n c : ℕ) (S : Stmt) → plain_in (out-Stmt S) ≡ Some c → IsPaying n c (piece S)
 paying n c S h = subst (IsPaying n c) (sym (piece_out S)) (paying_in n c (out-Stmt S) h)
 
--- ---- what is still to be paid at a place of a list
+-- ---- what is still to be paid at an index of a list
 or_zero : Option ℕ → ℕ
 or_zero (Some c) = c
 or_zero None = 0
@@ -92,7 +92,7 @@ left_end n (S ∷ R) c h =
     let q : suc (sizes (pieces R)) ≡ sizes (pieces (S ∷ R)) = (let a = (paying n p.0 S p.2).size in omega arith) in
     subst (λ i. left (S ∷ R) i ≡ 0) q (left_end n R p.1 p.3)
 
--- the first place of a list that stands at k
+-- the first index of a list that stands at k
 first_price : (n : ℕ) (R : List Stmt) (b k l : ℕ) (price : ℕ → ℤ) → plain_cost R ≡ Some b → l ≡ k + sizes (pieces R)
     → ((i : ℕ) → price (k + i) ≡ pos (left R i)) → price (first (pieces R) k l) ≡ pos b
 unfolding left

@@ -13,8 +13,8 @@ use Rattle.dc_system.specs.Systems.{system_of}
 use Rattle.dc_system.specs.Folded.{fold_at, IsFolded, unfolded}
 use Rattle.dc_points.specs.Points.{Point, MeetsAt, IsDead, whole_point}
 use Rattle.dc_points.specs.Flags.{IsFlag}
-use Rattle.dc_entail.specs.declared.answer.Place.{Place}
-use Rattle.dc_entail.specs.declared.answer.Place.TheVariants as place
+use Rattle.dc_entail.specs.declared.answer.Site.{Site}
+use Rattle.dc_entail.specs.declared.answer.Site.TheVariants as site
 use Rattle.dc_entail.specs.Asked.{Asked}
 use Rattle.dc_rows.specs.declared.kinds.Candidates.{Candidates}
 use Rattle.dc_families.specs.Graphs.{Graph, graph_of}
@@ -70,10 +70,10 @@ part side = record {
 abbrev analysis : Analysis
 analysis = record { new = system_of idle; old = system_of idle; live = true ∷ []; new_part = part New; old_part = part Old }
 
--- ---- its places in order
-places : map (λ (q : Asked). q.place) (session_of input analysis) ≡
-    place.When 0
-    ∷ place.EntryRow New 0 0 ∷ place.EntryRow New 0 1 ∷ place.Exit New
-    ∷ place.EntryRow Old 0 0 ∷ place.EntryRow Old 0 1 ∷ place.Exit Old
-    ∷ place.Main ∷ []
-places = refl
+-- ---- its sites in order
+sites : map (λ (q : Asked). q.site) (session_of input analysis) ≡
+    site.When 0
+    ∷ site.EntryRow New 0 0 ∷ site.EntryRow New 0 1 ∷ site.Exit New
+    ∷ site.EntryRow Old 0 0 ∷ site.EntryRow Old 0 1 ∷ site.Exit Old
+    ∷ site.Main ∷ []
+sites = refl

@@ -15,7 +15,7 @@ use Rattle.dc_system.proofs.OneFold.{one_folded}
 use Rattle.dc_cert.specs.declared.certificate.Certificate.{Certificate}
 use Rattle.dc_cert.specs.declared.certificate.Claim.{Claim}
 use Rattle.dc_cert.specs.Claims.{claim_of}
-use Rattle.dc_entail.specs.declared.answer.Place.{Place}
+use Rattle.dc_entail.specs.declared.answer.Site.{Site}
 use Rattle.dc_entail.specs.Asked.{Asked, Answers, IsDone, AllDone, IsRefusal as IsRefused, Refuses, HasRefusal}
 use Rattle.dc_entail.proofs.Refusals.{refusals_join, excludes, done_or_refused}
 use Rattle.dc_clauses.specs.declared.step.Step.{Step}
@@ -37,7 +37,7 @@ use Rattle.dc_session.proofs.Certificates.{one_made}
 both : (budget : ℕ) (q : Asked) (a : Answer) → IsRefused a → Answers budget q a → ¬ IsDone budget q
 both budget q a r h (n, e, t, d) = subst IsRefused (has_one_answer (rational q.problem) budget a (Done n e t) h d) r
 
-one_refused : (budget : ℕ) (ps : List Asked) (q z : Place) (a b : Answer) → Refuses budget ps q a → Refuses budget ps z b → (q ≡ z) × (a ≡ b)
+one_refused : (budget : ℕ) (ps : List Asked) (q z : Site) (a b : Answer) → Refuses budget ps q a → Refuses budget ps z b → (q ≡ z) × (a ≡ b)
 one_refused budget [] q z a b h k = absurd h
 one_refused budget (p ∷ ps) q z a b (inl h) (inl k) = (h.0 ∙ sym k.0, has_one_answer (rational p.problem) budget a b h.2 k.2)
 one_refused budget (p ∷ ps) q z a b (inl h) (inr k) = absurd (both budget p a h.1 h.2 k.0)
@@ -49,7 +49,7 @@ early_done budget [] qs d = tt
 early_done budget (p ∷ ps) qs d = (d.0, early_done budget ps qs d.1)
 
 -- a refusal is of a pivot, or of the budget
-pub is_past_or_out : (budget : ℕ) (ps : List Asked) (q : Place) (a : Answer) → Refuses budget ps q a → ((k : ℕ) × (a ≡ Past k)) ⊎ (a ≡ Out budget)
+pub is_past_or_out : (budget : ℕ) (ps : List Asked) (q : Site) (a : Answer) → Refuses budget ps q a → ((k : ℕ) × (a ≡ Past k)) ⊎ (a ≡ Out budget)
 is_past_or_out budget [] q a h = absurd h
 is_past_or_out budget (p ∷ ps) q (Done n e t) (inl h) = absurd h.1
 is_past_or_out budget (p ∷ ps) q (Past k) (inl h) = inl (k, refl)
@@ -117,7 +117,7 @@ module _ (i : Input) where
   one_excess e d (inr (a, h, x)) (inr (b, k, y)) =
       some_same e d (main_excess i a) x (ap (main_excess i) (one_analysis i a b h.analysis k.analysis) ∙ y)
 
-  excess_or_problem : (e : Excess) (q : Place) (r : Answer) → Exceeds i e → RefusesAt i q r → ⊥
+  excess_or_problem : (e : Excess) (q : Site) (r : Answer) → Exceeds i e → RefusesAt i q r → ⊥
   excess_or_problem e q r (inl h) k = some_none e _ h k.counts
   excess_or_problem e q r (inr (a, h, x)) k =
       let s = one_analysis i a k.analysis h.analysis k.right in
@@ -128,12 +128,12 @@ module _ (i : Input) where
   excess_or_through e b (inr (a, h, x)) k =
       some_none e (main_excess i a) x (ap (main_excess i) (one_analysis i a b h.analysis k.analysis) ∙ k.main_counts)
 
-  one_problem : (q z : Place) (r s : Answer) → RefusesAt i q r → RefusesAt i z s → (q ≡ z) × (r ≡ s)
+  one_problem : (q z : Site) (r s : Answer) → RefusesAt i q r → RefusesAt i z s → (q ≡ z) × (r ≡ s)
   one_problem q z r s h k =
       let e = one_analysis i h.analysis k.analysis h.right k.right in
       one_refused budget (session_of i h.analysis) q z r s h.refuses (subst (λ b. Refuses budget (session_of i b) z s) (sym e) k.refuses)
 
-  problem_or_through : (q : Place) (r : Answer) (b : Analysis) → RefusesAt i q r → IsThrough i b → ⊥
+  problem_or_through : (q : Site) (r : Answer) (b : Analysis) → RefusesAt i q r → IsThrough i b → ⊥
   problem_or_through q r b h k =
       let e = one_analysis i h.analysis b h.right k.analysis in
       excludes has_one_answer budget (session_of i h.analysis) q r h.refuses (subst (λ x. AllDone budget (session_of i x)) (sym e) k.through)
@@ -180,7 +180,7 @@ module _ (i : Input) where
   abbrev Stops : Type 0
   Stops = (f : AnalyseFault) × IsRefusal i f
 
-  stops_at : (q : Place) (r : Answer) → RefusesAt i q r → Stops
+  stops_at : (q : Site) (r : Answer) → RefusesAt i q r → Stops
   stops_at q r h = by r h (is_past_or_out budget (session_of i h.analysis) q r h.refuses)
     where
       by : (r : Answer) → RefusesAt i q r → ((k : ℕ) × (r ≡ Past k)) ⊎ (r ≡ Out budget) → Stops
@@ -190,17 +190,17 @@ module _ (i : Input) where
   module _ (a : Analysis) (right : IsAnalysis i a) (counts : early_excess i ≡ None) where
     ends : main_excess i a ≡ None → AllDone budget (session_of i a) ⊎ HasRefusal budget (session_of i a) → ((b : Analysis) × IsThrough i b) ⊎ Stops
     ends e (inl d) = inl (a, record { analysis = right; counts = counts; main_counts = e; through = d })
-    ends e (inr r) = inr (stops_at r.place r.answer (record { analysis = a; right = right; counts = counts; main_counts = λ d. e; refuses = r.refuses }))
+    ends e (inr r) = inr (stops_at r.site r.answer (record { analysis = a; right = right; counts = counts; main_counts = λ d. e; refuses = r.refuses }))
 
     exceeds : (x : Excess) → main_excess i a ≡ Some x → AllDone budget (early_asked i a) ⊎ HasRefusal budget (early_asked i a) → Stops
     exceeds x e (inl d) =
         (TooLarge x.side x.what x.count, inr (a, record { analysis = right; counts = counts; through = d }, e))
-    exceeds x e (inr r) = stops_at r.place r.answer (record {
+    exceeds x e (inr r) = stops_at r.site r.answer (record {
       analysis = a;
       right = right;
       counts = counts;
-      main_counts = λ d. absurd (excludes has_one_answer budget (early_asked i a) r.place r.answer r.refuses d);
-      refuses = (refusals_join budget (early_asked i a) (main_asked i a ∷ []) r.place r.answer).1 (inl r.refuses);
+      main_counts = λ d. absurd (excludes has_one_answer budget (early_asked i a) r.site r.answer r.refuses d);
+      refuses = (refusals_join budget (early_asked i a) (main_asked i a ∷ []) r.site r.answer).1 (inl r.refuses);
     })
 
     through_or_stops : (o : Option Excess) → main_excess i a ≡ o → ((b : Analysis) × IsThrough i b) ⊎ Stops

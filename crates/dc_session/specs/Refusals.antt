@@ -16,7 +16,7 @@ use Rattle.dc_rows.specs.declared.kinds.RowFault.{RowFault}
 use Rattle.dc_rows.specs.declared.kinds.RowFault.TheVariants as row
 use Rattle.dc_rows.specs.declared.kinds.Candidates.{Candidates}
 use Rattle.dc_rows.specs.Candidate as rows
-use Rattle.dc_entail.specs.declared.answer.Place.{Place}
+use Rattle.dc_entail.specs.declared.answer.Site.{Site}
 use Rattle.dc_entail.specs.Asked.{AllDone, Refuses}
 use Rattle.dc_match.specs.declared.fault.MatchFault.{MatchFault}
 use Rattle.dc_match.specs.declared.fault.MatchFault.TheVariants as match
@@ -100,7 +100,7 @@ abbrev pub Exceeds : Input → Excess → Type 0
 Exceeds i e = (early_excess i ≡ Some e) ⊎ ((a : Analysis) × IsBegun i a × (main_excess i a ≡ Some e))
 
 -- of a problem of the session; where that is the main one, its counts are within their limits
-pub record RefusesAt (i : Input) (q : Place) (r : Answer) : Type 0 where
+pub record RefusesAt (i : Input) (q : Site) (r : Answer) : Type 0 where
   pub analysis : Analysis
   pub right : IsAnalysis i analysis
   pub counts : early_excess i ≡ None

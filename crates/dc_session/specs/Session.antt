@@ -11,7 +11,7 @@ use Rattle.dc_system.specs.Folded.{IsFolded}
 use Rattle.dc_cert.specs.declared.certificate.Settings.{Settings}
 use Rattle.dc_points.specs.Stated.{empty_problem}
 use Rattle.dc_points.specs.Flags.{IsFlag, AreFlags}
-use Rattle.dc_entail.specs.declared.answer.Place.TheVariants as place
+use Rattle.dc_entail.specs.declared.answer.Site.TheVariants as site
 use Rattle.dc_entail.specs.Asked.{Asked, ask}
 use Rattle.dc_rows.specs.declared.kinds.Candidates.{Candidates}
 use Rattle.dc_rows.specs.Candidate.{candidates_of}
@@ -37,7 +37,7 @@ candidates_for i p = candidates_of (system_of p) (flat_map (λ case. case) i.cas
 
 -- ---- 1. whether each case is dead
 abbrev pub case_asked : ℕ → ℕ → List Atom → Asked
-case_asked params k case = ask (place.When k) (empty_problem case params)
+case_asked params k case = ask (site.When k) (empty_problem case params)
 
 abbrev pub cases_asked : ℕ → List (List Atom) → List Asked
 cases_asked params cases = numbered (case_asked params) 0 cases
@@ -116,8 +116,8 @@ module _ (i : Input) (a : Analysis) where
   main_of = main_problem pair_of i.settings.degree i.settings.products flags_of
 
   abbrev pub main_asked : Asked
-  main_asked = ask place.Main main_of
+  main_asked = ask site.Main main_of
 
-  -- ---- all problems, each with its place
+  -- ---- all problems, each with its site
   abbrev pub session_of : List Asked
   session_of = early_asked ++ main_asked ∷ []

@@ -1,13 +1,13 @@
 //! Why an analysis gives no certificate.
-use dc_entail::Place;
+use dc_entail::Site;
 use dc_syntax::{Count, Side};
 use thiserror::Error;
 
 /// What passes 128 bits.
 #[derive(Clone, Copy, Debug, PartialEq)]
 pub enum PastAt {
-    /// A pivot of the problem at a place, counted from 1.
-    Pivot { place: Place, pivot: u64 },
+    /// A pivot of the problem at a site, counted from 1.
+    Pivot { site: Site, pivot: u64 },
     /// A sum that a clause of the checker wants, at an index, over the certificate that was made.
     Fold { clause: u8, index: u64 },
 }
@@ -25,10 +25,10 @@ pub enum AnalyseFault {
     /// A value passes 128 bits.
     #[error("past 128 bits")]
     Past128(PastAt),
-    /// The problem at a place wants more pivots than the settings allow.
+    /// The problem at a site wants more pivots than the settings allow.
     #[error("the pivots are spent")]
     Budget {
-        place: Place,
+        site: Site,
     },
     /// Memory ran out.
     #[error("out of memory")]

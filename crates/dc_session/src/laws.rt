@@ -3,7 +3,7 @@ ghost use Rattle.dc_session.specs.Laws.{AreOfGreatest, AsksOne, CertificatesExcl
 ghost use Rattle.dc_session.specs.Laws.{OneAnalysis, OneCertificate, OneMade, OneRefusal, ThroughOrRefused};
 
 /// Two programs whose counts are within their limits have one analysis: one list of problems with
-/// their places. Its printed atoms are those of the greatest families, and its flags tell which
+/// their sites. Its printed atoms are those of the greatest families, and its flags tell which
 /// duties over these are owed.
 pub fn analyses_are_one()
     ensures some { HasAnalysis }

@@ -4,7 +4,8 @@
 //! The crate has no function that computes: it is definitions, laws over them, and the type of
 //! refusals.
 //!
-//! - `Session`: everything that the definitions determine of an analysis, and its problems as one list of places and problems;
+//! - `Session`: everything that the definitions determine of an analysis, and its problems as one
+//!   list of sites and problems;
 //! - `Refusals`: the counts, and which step is refused first;
 //! - `Made`: the certificate as a function of the outcomes;
 //! - `Answers`: what an analysis answers;

@@ -1,15 +1,15 @@
--- A place that gets links between its neighbours.
+-- A slot that gets links between its neighbours.
 use Rattle.std.proofs.Common.{◌≡◌, ◌≢◌, ℕ, suc, ◌+◌, ◌<◌, ◌⊎◌, inl, inr, Bool, true, false, is_some, List, length, Option, Some, None, sym, ◌∙◌, ap, subst, arith}
 use Rattle.std.proofs.Math.ListN.{set}
 use Rattle.std.proofs.lemmas.Bool.{cases_eq}
 use Rattle.std.proofs.lemmas.List.{get_or-set_same, get_or-set_other}
 use Rattle.dc_worklist.specs.declared.work_list.Links.{Links}
 use Rattle.dc_worklist.specs.Listed.{with_number}
-use Rattle.dc_worklist.specs.Links.{place_at, is_linked, linked_from, IsNext, IsLast, AreLinked, behind, with_after, with_before}
+use Rattle.dc_worklist.specs.Links.{slot_at, is_linked, linked_from, IsNext, IsLast, AreLinked, behind, with_after, with_before}
 use Rattle.dc_worklist.proofs.Neighbours.{next_new, last_new, next_on, next_other, next_first, last_other, last_kept}
-use Rattle.dc_worklist.proofs.Places.{same_numbers, added_number, after_was, before_was, after_linked, before_linked, length-after, length-before}
+use Rattle.dc_worklist.proofs.Slots.{same_numbers, added_number, after_was, before_was, after_linked, before_linked, length-after, length-before}
 
-module _ (ps : List (Option Links)) (head : Option ℕ) (e : ℕ) (b a : Option ℕ) (range : e < length ps) (free : place_at ps e ≡ None)
+module _ (ps : List (Option Links)) (head : Option ℕ) (e : ℕ) (b a : Option ℕ) (range : e < length ps) (free : slot_at ps e ≡ None)
     (w : AreLinked ps head) (below : IsLast (is_linked ps) e b) (above : IsNext (is_linked ps) (behind b) a) where
   abbrev new : Links
   new = record { before = b; after = a }
@@ -41,14 +41,14 @@ module _ (ps : List (Option Links)) (head : Option ℕ) (e : ℕ) (b a : Option 
   further : IsNext U (suc e) a
   further = next_on T U e at other b a below none above
 
-  -- a place's links are the new ones, or those that it had
-  was : (i : ℕ) (q : Links) → place_at put i ≡ Some q → ((i ≡ e) × (q ≡ new)) ⊎ ((i ≢ e) × (place_at ps i ≡ Some q))
+  -- a slot's links are the new ones, or those that it had
+  was : (i : ℕ) (q : Links) → slot_at put i ≡ Some q → ((i ≡ e) × (q ≡ new)) ⊎ ((i ≢ e) × (slot_at ps i ≡ Some q))
   was i q h = elim (cases_eq i e) [
-    | inl s ↦ let f : Some new ≡ Some q = sym (get_or-set_same ps e (Some new) None range) ∙ ap (place_at put) (sym s) ∙ h in inl (s, (cc))
+    | inl s ↦ let f : Some new ≡ Some q = sym (get_or-set_same ps e (Some new) None range) ∙ ap (slot_at put) (sym s) ∙ h in inl (s, (cc))
     | inr n ↦ inr (n, sym (get_or-set_other ps e i (Some new) None n) ∙ h)
   ]
 
-  after_right : (i : ℕ) (q : Links) → place_at inserted i ≡ Some q → IsNext U (suc i) q.after
+  after_right : (i : ℕ) (q : Links) → slot_at inserted i ≡ Some q → IsNext U (suc i) q.after
   after_right i q h =
       let x = before_was (with_after b (Some e) put) a (Some e) i q h in
       let y = after_was put b (Some e) i x.old x.was in
@@ -65,7 +65,7 @@ module _ (ps : List (Option Links)) (head : Option ℕ) (e : ℕ) (b a : Option 
   new_before (Some j) i h k s =
       let f : j ≡ i = cc in let l = k.0 in subst (λ x. IsLast U x (Some e)) f (last_new T U e at other b j below none h (omega arith))
 
-  before_right : (i : ℕ) (q : Links) → place_at inserted i ≡ Some q → IsLast U i q.before
+  before_right : (i : ℕ) (q : Links) → slot_at inserted i ≡ Some q → IsLast U i q.before
   before_right i q h =
       let x = before_was (with_after b (Some e) put) a (Some e) i q h in
       let y = after_was put b (Some e) i x.old x.was in

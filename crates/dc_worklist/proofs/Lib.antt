@@ -1,5 +1,5 @@
 mod Neighbours
-mod Places
+mod Slots
 mod Inserted
 mod Removed
 pub mod Numbers

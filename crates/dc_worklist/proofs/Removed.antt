@@ -1,12 +1,12 @@
--- The first place, which loses its links.
+-- The first slot, which loses its links.
 use Rattle.std.proofs.Common.{◌≡◌, ◌≢◌, ℕ, suc, ◌+◌, inl, inr, Bool, false, is_some, List, ◌∷◌, Option, Some, None, sym, ◌∙◌, ap, subst, arith}
 use Rattle.std.proofs.Math.ListN.{set}
 use Rattle.std.proofs.lemmas.Bool.{cases_eq}
 use Rattle.std.proofs.lemmas.List.{get_or-set_same, get_or-set_other}
 use Rattle.dc_worklist.specs.declared.work_list.Links.{Links}
-use Rattle.dc_worklist.specs.Links.{place_at, is_linked, linked_from, IsNext, IsLast, AreLinked, with_before}
+use Rattle.dc_worklist.specs.Links.{slot_at, is_linked, linked_from, IsNext, IsLast, AreLinked, with_before}
 use Rattle.dc_worklist.proofs.Neighbours.{next_past, next_least, past_least, last_least, last_past}
-use Rattle.dc_worklist.proofs.Places.{linked_below, same_numbers, removed_number, before_was, before_linked, length-before}
+use Rattle.dc_worklist.proofs.Slots.{linked_below, same_numbers, removed_number, before_was, before_linked, length-before}
 
 module _ (ps : List (Option Links)) (f : ℕ) (a : Option ℕ) (w : AreLinked ps (Some f)) (above : IsNext (is_linked ps) (suc f) a) where
   abbrev put : List (Option Links)
@@ -30,13 +30,13 @@ module _ (ps : List (Option Links)) (f : ℕ) (a : Option ℕ) (w : AreLinked ps
   other : (i : ℕ) → i ≢ f → U i ≡ T i
   other i n = like i ∙ ap is_some (get_or-set_other ps f i None None n)
 
-  was : (i : ℕ) (q : Links) → place_at put i ≡ Some q → (i ≢ f) × (place_at ps i ≡ Some q)
+  was : (i : ℕ) (q : Links) → slot_at put i ≡ Some q → (i ≢ f) × (slot_at ps i ≡ Some q)
   was i q h = elim (cases_eq i f) [
-    | inl s ↦ let e : None ≡ Some q = sym (get_or-set_same ps f None None (linked_below ps f w.first.1)) ∙ ap (place_at put) (sym s) ∙ h in absurd (cc)
+    | inl s ↦ let e : None ≡ Some q = sym (get_or-set_same ps f None None (linked_below ps f w.first.1)) ∙ ap (slot_at put) (sym s) ∙ h in absurd (cc)
     | inr n ↦ (n, sym (get_or-set_other ps f i None None n) ∙ h)
   ]
 
-  after_right : (i : ℕ) (q : Links) → place_at removed i ≡ Some q → IsNext U (suc i) q.after
+  after_right : (i : ℕ) (q : Links) → slot_at removed i ≡ Some q → IsNext U (suc i) q.after
   after_right i q h =
       let x = before_was put a None i q h in
       let z = was i x.old x.was in
@@ -47,7 +47,7 @@ module _ (ps : List (Option Links)) (f : ℕ) (a : Option ℕ) (w : AreLinked ps
   none_before None i h s = absurd (cc)
   none_before (Some j) i h s = let e : j ≡ i = cc in subst (λ x. IsLast U x None) e (last_least T U f w.first at other j h)
 
-  before_right : (i : ℕ) (q : Links) → place_at removed i ≡ Some q → IsLast U i q.before
+  before_right : (i : ℕ) (q : Links) → slot_at removed i ≡ Some q → IsLast U i q.before
   before_right i q h =
       let x = before_was put a None i q h in
       let z = was i x.old x.was in

@@ -1,4 +1,4 @@
--- From the places to the list that contracts see.
+-- From the slots to the list that contracts see.
 use Rattle.std.proofs.Common.{◌≡◌, ℕ, inl, inr, ◌+◌, ◌<◌, ◌≤◌, true, false, is_some, List, [], ◌∷◌, length, get_or, replicate, Option, Some, None, sym, ◌∙◌, ap, ap₂, subst, arith}
 use Rattle.std.proofs.Math.ListN.{length-replicate}
 use Rattle.std.specs.List.{AllByRecursion}
@@ -6,8 +6,8 @@ use Rattle.std.proofs.lemmas.List.{get_or_read, get_or-replicate, get_or_past}
 use Rattle.std.proofs.lemmas.Bool.{cases_lt}
 use Rattle.dc_worklist.specs.declared.work_list.Links.{Links}
 use Rattle.dc_worklist.specs.Listed.{Listed, IsTaken, Rising, is_listed, with_number}
-use Rattle.dc_worklist.specs.Links.{place_at, is_linked, linked_from, IsNext, AreLinked}
-use Rattle.dc_worklist.proofs.Places.{listed_is, no_numbers, numbers_rise, numbers_below}
+use Rattle.dc_worklist.specs.Links.{slot_at, is_linked, linked_from, IsNext, AreLinked}
+use Rattle.dc_worklist.proofs.Slots.{listed_is, no_numbers, numbers_rise, numbers_below}
 use Rattle.dc_worklist.proofs.Numbers.{with_listed}
 
 abbrev pub viewed : List (Option Links) → Listed
@@ -25,12 +25,12 @@ stays ps w i v h =
     let make : List ℕ → Listed = λ ks. record { edges = w.edges; numbers = ks } in
     ap make (sym (with_listed i w.numbers (subst (λ (x : Listed). Rising x.numbers) v (numbers_rise 0 ps)) h))
 
-pub free_place : (ps : List (Option Links)) (w : Listed) (i : ℕ) (o : Option Links) → viewed ps ≡ w → i < w.edges → o ≡ get_or ps i o → is_some o ≡ false → place_at ps i ≡ None
-free_place ps w i o v l r h =
+pub free_slot : (ps : List (Option Links)) (w : Listed) (i : ℕ) (o : Option Links) → viewed ps ≡ w → i < w.edges → o ≡ get_or ps i o → is_some o ≡ false → slot_at ps i ≡ None
+free_slot ps w i o v l r h =
     let b : i < length ps = subst (λ (x : Listed). i < x.edges) (sym v) l in
     by o h (get_or_read ps i o b r None)
   where
-    by : (o : Option Links) → is_some o ≡ false → o ≡ place_at ps i → place_at ps i ≡ None
+    by : (o : Option Links) → is_some o ≡ false → o ≡ slot_at ps i → slot_at ps i ≡ None
     by None h e = sym e
     by (Some p) h e = absurd (cc)
 
@@ -50,7 +50,7 @@ taken ps qs w k v l e =
       least = rises.0;
     }
 
-pub none_linked : (n : ℕ) (i : ℕ) → place_at (replicate n None) i ≡ None
+pub none_linked : (n : ℕ) (i : ℕ) → slot_at (replicate n None) i ≡ None
 none_linked n i = elim (cases_lt i n) [
   | inl l ↦ get_or-replicate n i None None l
   | inr l ↦ get_or_past (replicate n None) i None (omega (arith, length-replicate {A = Option Links} n None))
@@ -63,7 +63,7 @@ new_view n ps e =
 
 pub new_links : (n : ℕ) (ps : List (Option Links)) → ps ≡ replicate n None → AreLinked ps None
 new_links n ps e =
-    let none : (i : ℕ) → place_at ps i ≡ None = λ i. ap (λ xs. place_at xs i) e ∙ none_linked n i in
+    let none : (i : ℕ) → slot_at ps i ≡ None = λ i. ap (λ xs. slot_at xs i) e ∙ none_linked n i in
     record {
       first = λ i l. ap is_some (none i);
       after = λ k p h. let x : None ≡ Some p = sym (none k) ∙ h in absurd (cc);

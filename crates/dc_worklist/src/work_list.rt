@@ -1,7 +1,7 @@
-//! The list: a place for each edge, with links where the edge is on it.
+//! The list: a slot for each edge, with links where the edge is on it.
 ghost use Rattle.std.specs.Prelude.{◌≡◌, ◌<◌, ◌≤◌, ◌∷◌, not, true, [], length, replicate, Some, None, IfOk, IfSome};
 ghost use Rattle.dc_worklist.specs.Listed.{Listed, is_listed, with_number, IsPopped};
-ghost use Rattle.dc_worklist.specs.Links.{place_at, is_linked, linked_from, IsNext, IsLast, AreLinked, behind, with_after, with_before};
+ghost use Rattle.dc_worklist.specs.Links.{slot_at, is_linked, linked_from, IsNext, IsLast, AreLinked, behind, with_after, with_before};
 
 use std::alloc::{AllocError, Global};
 use std::marker::Model;
@@ -15,11 +15,11 @@ struct Links {
 
 /// A rising list of edge numbers below a bound, each at most once.
 ///
-/// It is doubly linked by number, with one place for each edge: an edge on the list names its
+/// It is doubly linked by number, with one slot for each edge: an edge on the list names its
 /// neighbours both ways, every other has no links.
 #[derive(Debug, Drop)]
 pub struct WorkList {
-    places: Vec<Option<Links>>,
+    slots: Vec<Option<Links>>,
     first: Option<usize>,
 }
 
@@ -32,11 +32,11 @@ impl Model for WorkList {
     ghost use Rattle.dc_worklist.specs.Links.{linked_from, AreLinked};
 
     ghost view = { λ w. record {
-      edges = length w.places.items;
-      numbers = linked_from 0 w.places.items;
+      edges = length w.slots.items;
+      numbers = linked_from 0 w.slots.items;
     } };
 
-    ghost invariant = { λ w. AreLinked w.places.items w.first };
+    ghost invariant = { λ w. AreLinked w.slots.items w.first };
 }
 
 impl WorkList {
@@ -45,7 +45,7 @@ impl WorkList {
         ensures { IfOk result (λ w. w ≡ record { edges = edges; numbers = [] }) }
     {
         Ok(WorkList {
-            places: no_links(alloc, edges)?,
+            slots: no_links(alloc, edges)?,
             first: None,
         })
     }
@@ -60,20 +60,20 @@ impl WorkList {
         ensures list { self.new
             ≡ record { edges = self.old.edges; numbers = with_number edge self.old.numbers } }
     {
-        if self.places[edge].is_some() {
+        if self.slots[edge].is_some() {
             return false;
         }
-        link(&mut self.places, &mut self.first, edge);
+        link(&mut self.slots, &mut self.first, edge);
         true
     }
 
     /// The least edge, which is taken out; none where the list is empty. It takes no memory, and
-    /// looks at two places at most.
+    /// looks at two slots at most.
     pub fn pop_first(&mut self) -> Option<usize>
         ensures { IsPopped self.old self.new result }
     {
         let edge = self.first?;
-        self.first = unlink(&mut self.places, edge);
+        self.first = unlink(&mut self.slots, edge);
         Some(edge)
     }
 
@@ -82,11 +82,11 @@ impl WorkList {
         requires { edge < self.now.edges }
         ensures { result ≡ is_listed edge self.now.numbers }
     {
-        self.places[edge].is_some()
+        self.slots[edge].is_some()
     }
 }
 
-/// So many places without links.
+/// So many slots without links.
 fn no_links(alloc: Global, edges: usize) -> Result<Vec<Option<Links>>, AllocError>
     ensures { IfOk result (λ v. v.items ≡ replicate edges None) }
 {
@@ -94,44 +94,44 @@ fn no_links(alloc: Global, edges: usize) -> Result<Vec<Option<Links>>, AllocErro
 }
 
 /// Puts an edge between its neighbours.
-fn link(places: &mut [Option<Links>], first: &mut Option<usize>, edge: usize)
-    requires range { edge < length places.old }
-    requires free { place_at places.old edge ≡ None }
-    requires linked { AreLinked places.old first.old }
-    ensures linked { AreLinked places.new first.new }
-    ensures list { linked_from 0 places.new ≡ with_number edge (linked_from 0 places.old) }
+fn link(slots: &mut [Option<Links>], first: &mut Option<usize>, edge: usize)
+    requires range { edge < length slots.old }
+    requires free { slot_at slots.old edge ≡ None }
+    requires linked { AreLinked slots.old first.old }
+    ensures linked { AreLinked slots.new first.new }
+    ensures list { linked_from 0 slots.new ≡ with_number edge (linked_from 0 slots.old) }
 {
-    let before = last_below(places, edge);
-    let after = next_behind(places, *first, before);
-    places[edge] = Some(Links { before, after });
-    set_after(places, before, edge);
-    set_before(places, after, Some(edge));
+    let before = last_below(slots, edge);
+    let after = next_behind(slots, *first, before);
+    slots[edge] = Some(Links { before, after });
+    set_after(slots, before, edge);
+    set_before(slots, after, Some(edge));
     if before.is_none() {
         *first = Some(edge);
     }
 }
 
 /// Takes the first edge out, and gives the one behind it.
-fn unlink(places: &mut [Option<Links>], edge: usize) -> Option<usize>
-    requires linked { AreLinked places.old (Some edge) }
-    ensures linked { AreLinked places.new result }
-    ensures list { linked_from 0 places.old ≡ edge ∷ linked_from 0 places.new }
+fn unlink(slots: &mut [Option<Links>], edge: usize) -> Option<usize>
+    requires linked { AreLinked slots.old (Some edge) }
+    ensures linked { AreLinked slots.new result }
+    ensures list { linked_from 0 slots.old ≡ edge ∷ linked_from 0 slots.new }
 {
-    let after = next_behind(places, Some(edge), Some(edge));
-    places[edge] = None;
-    set_before(places, after, None);
+    let after = next_behind(slots, Some(edge), Some(edge));
+    slots[edge] = None;
+    set_before(slots, after, None);
     after
 }
 
 /// The greatest edge on the list below one.
-fn last_below(places: &[Option<Links>], edge: usize) -> Option<usize>
-    requires { edge ≤ length places.now }
-    ensures { IsLast (is_linked places.now) edge result }
+fn last_below(slots: &[Option<Links>], edge: usize) -> Option<usize>
+    requires { edge ≤ length slots.now }
+    ensures { IsLast (is_linked slots.now) edge result }
 {
     let mut k = edge;
     while k > 0 {
         k -= 1;
-        if places[k].is_some() {
+        if slots[k].is_some() {
             return Some(k);
         }
     }
@@ -140,30 +140,30 @@ fn last_below(places: &[Option<Links>], edge: usize) -> Option<usize>
 
 /// The edge behind one on the list, or the first.
 fn next_behind(
-    places: &[Option<Links>],
+    slots: &[Option<Links>],
     first: Option<usize>,
     before: Option<usize>,
 ) -> Option<usize>
-    requires linked { AreLinked places.now first }
-    requires there { IfSome before (λ k. is_linked places.now k ≡ true) }
-    ensures { IsNext (is_linked places.now) (behind before) result }
+    requires linked { AreLinked slots.now first }
+    requires there { IfSome before (λ k. is_linked slots.now k ≡ true) }
+    ensures { IsNext (is_linked slots.now) (behind before) result }
 {
     match before {
-        Some(before) => places[before]?.after,
+        Some(before) => slots[before]?.after,
         None => first,
     }
 }
 
 /// Names what follows an edge, if there is one.
-fn set_after(places: &mut [Option<Links>], edge: Option<usize>, after: usize)
-    requires { IfSome edge (λ k. k < length places.old) }
-    ensures { places.new ≡ with_after edge (Some after) places.old }
+fn set_after(slots: &mut [Option<Links>], edge: Option<usize>, after: usize)
+    requires { IfSome edge (λ k. k < length slots.old) }
+    ensures { slots.new ≡ with_after edge (Some after) slots.old }
 {
     let Some(edge) = edge else {
         return;
     };
-    if let Some(links) = places[edge] {
-        places[edge] = Some(Links {
+    if let Some(links) = slots[edge] {
+        slots[edge] = Some(Links {
             before: links.before,
             after: Some(after),
         });
@@ -171,15 +171,15 @@ fn set_after(places: &mut [Option<Links>], edge: Option<usize>, after: usize)
 }
 
 /// Names what stands before an edge, if there is one.
-fn set_before(places: &mut [Option<Links>], edge: Option<usize>, before: Option<usize>)
-    requires { IfSome edge (λ k. k < length places.old) }
-    ensures { places.new ≡ with_before edge before places.old }
+fn set_before(slots: &mut [Option<Links>], edge: Option<usize>, before: Option<usize>)
+    requires { IfSome edge (λ k. k < length slots.old) }
+    ensures { slots.new ≡ with_before edge before slots.old }
 {
     let Some(edge) = edge else {
         return;
     };
-    if let Some(links) = places[edge] {
-        places[edge] = Some(Links {
+    if let Some(links) = slots[edge] {
+        slots[edge] = Some(Links {
             before,
             after: links.after,
         });

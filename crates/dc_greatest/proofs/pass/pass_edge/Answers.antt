@@ -18,7 +18,7 @@ use Rattle.dc_greatest.specs.Lent.{graph, family, EdgeAsks}
 use Rattle.dc_greatest.specs.Parts.{edge_empty}
 use Rattle.dc_greatest.proofs.Bridges.{shapes_are_families}
 use Rattle.dc_greatest.proofs.EdgeTaken.{taken_false, taken_dead, taken_live, live_never, done_live, fault_empty, fault_rows}
-use Rattle.dc_greatest.proofs.Faults.{placed_fault, best_end, refuted_end, on_both}
+use Rattle.dc_greatest.proofs.Faults.{fault_with_site, best_end, refuted_end, on_both}
 use Rattle.dc_greatest.proofs.Passing.{cut_atoms, cut_kind, live_whole, dead_whole, empty_same, empty_read}
 use Rattle.dc_greatest.proofs.Rows.{taken_lowered}
 use Rattle.dc_greatest.proofs.Sources.{source_fit, source_never, source_alive, source_list}
@@ -214,4 +214,4 @@ returns-clause-fault g c =
     let own = subst (λ p. IsSolveFault (rational p) t.budget c.in-Err.fault) (empty_same (graph t) k J kind h e shape)
     (empty_read (λ p. IsSolveFault (rational p) t.budget c.in-Err.fault) _ _ _ _ HY c.edge_places-places.ensures c.in-Err.ensures.fault) in
     subst (IsFault t.budget (EdgeAsks t J c.args.k e)) (sym c.at.ensures)
-    (fault_empty t.side (graph t) t.cases.now t.live.now k J t.budget c.args.k e kind h alive _ (placed_fault t.budget (edge_empty t.side (graph t) k J c.args.k e) c.in-Err.fault own))
+    (fault_empty t.side (graph t) t.cases.now t.live.now k J t.budget c.args.k e kind h alive _ (fault_with_site t.budget (edge_empty t.side (graph t) k J c.args.k e) c.in-Err.fault own))

@@ -15,7 +15,7 @@ sup-requires-clause-light g c =
 
 pub returns-in-Ok-At-clause-answer : goal.returns-in-Ok-At-clause-answer
 returns-in-Ok-At-clause-answer g c =
-    entailed_least c.args.place c.args.hyps.now c.args.atom.now c.deref.result.now c.args.budget
+    entailed_least c.args.site c.args.hyps.now c.args.atom.now c.deref.result.now c.args.budget
     (c.deref.ensures.value ∙ c.in_ok-form.ensures ∙ ap (take c.args.vars) c.as_slice.ensures ∙ full_form c.args.vars c.args.atom.now c.requires.atom)
     c.in-Ok-At.value c.in-Ok-At.field-0-1.items c.is_at_most.result
     (subst (λ (x : Sup). TellsSup c.args.hyps.now c.deref.result.now c.args.budget x) c.in-Ok-At.field-0-is (c.in-Ok-At.ensures {u = tt}).answer)
@@ -23,7 +23,7 @@ returns-in-Ok-At-clause-answer g c =
 
 pub returns-in-Ok-NoBound-clause-answer : goal.returns-in-Ok-NoBound-clause-answer
 returns-in-Ok-NoBound-clause-answer g c =
-    entailed_none c.args.place c.args.hyps.now c.args.atom.now c.deref.result.now c.args.budget
+    entailed_none c.args.site c.args.hyps.now c.args.atom.now c.deref.result.now c.args.budget
     (c.deref.ensures.value ∙ c.in_ok-form.ensures ∙ ap (take c.args.vars) c.as_slice.ensures ∙ full_form c.args.vars c.args.atom.now c.requires.atom)
     c.in-Ok-NoBound.field-0-0.items
     (subst (λ (x : Sup). TellsSup c.args.hyps.now c.deref.result.now c.args.budget x) c.in-Ok-NoBound.field-0-is (c.in-Ok-NoBound.ensures {u = tt}).answer)

@@ -3,7 +3,7 @@ use Rattle.std.proofs.Common.{◌<◌, ◌≤◌, ◌^◌, ◌∙◌, List, sym,
 use Rattle.std.specs.Prelude.{ℤ, sum_by, unsigned_abs}
 use Rattle.dc_affine.specs.Atoms.{AllFit, IsAtom}
 use Rattle.dc_system.specs.declared.rows.RowAfter.{RowAfter}
-use Rattle.dc_entail.specs.declared.answer.Place.TheVariants as place
+use Rattle.dc_entail.specs.declared.answer.Site.TheVariants as site
 use Rattle.dc_invariant.specs.Lent.{HasBound}
 use Rattle.dc_invariant.proofs.Faults.{if_ok, if_err}
 use Rattle.dc_invariant.proofs.Keepings.{is_edge, cut_atoms, cut_live, short, fit, along_long, along_form, form_light, along_bounded, along_kept, along_fault}
@@ -42,4 +42,4 @@ returns-clause-answer g c =
 pub returns-clause-fault : goal.returns-clause-fault
 returns-clause-fault g c =
     if_err _ _ (λ f h. along_fault c.args.t.now c.requires.lent c.args.edge.now c.requires.edge c.args.atom.now c.requires.atom c.args.hyps.now c.requires.hyps (take c.edge_places-places.result c.as_slice-2.result.now) (along_form c.args.t.now c.requires.lent c.args.edge.now c.requires.edge c.args.atom.now c.requires.atom c.edge_places-places.result c.as_slice-2.result.now c.as_slice.result.now c.edge_places-places.ensures (c.as_slice-2.ensures ∙ ap (λ (r : RowAfter). r.coefs) (c.in_ok-row.ensures {u = tt}).row) c.as_slice.ensures)
-    (place.KeptAtom c.args.t.now.side c.args.edge_number c.args.number) f h) c.keep.result c.keep.ensures.fault
+    (site.KeptAtom c.args.t.now.side c.args.edge_number c.args.number) f h) c.keep.result c.keep.ensures.fault

@@ -3,7 +3,7 @@ use Rattle.std.proofs.Common.{List, sym, subst, arith}
 use Rattle.std.specs.Prelude.{◌∷◌, [], IfOk, IfErr}
 use Rattle.dc_affine.specs.declared.atom.Atom.{Atom}
 use Rattle.dc_affine.specs.Atoms.{IsAtom}
-use Rattle.dc_entail.specs.declared.answer.Place.TheVariants as place
+use Rattle.dc_entail.specs.declared.answer.Site.TheVariants as site
 use Rattle.dc_entail.specs.Asked.{ask}
 use Rattle.dc_points.specs.Stated.{empty_problem}
 use Rattle.dc_greatest.specs.Answers.{IsFault}
@@ -24,4 +24,4 @@ returns-clause-answer g c =
 
 pub returns-clause-fault : goal.returns-clause-fault
 returns-clause-fault g c =
-    subst (λ (xs : List Atom). IfErr c.line.result (IsFault c.args.t.now.budget (Only (ask (place.Exit c.args.t.now.side) (empty_problem xs c.args.t.now.system.now.vars) ∷ [])))) c.atoms_of-atoms.ensures c.line.ensures.fault
+    subst (λ (xs : List Atom). IfErr c.line.result (IsFault c.args.t.now.budget (Only (ask (site.Exit c.args.t.now.side) (empty_problem xs c.args.t.now.system.now.vars) ∷ [])))) c.atoms_of-atoms.ensures c.line.ensures.fault

@@ -1,5 +1,5 @@
-//! The words for places.
-use dc_entail::Place;
+//! The words for sites.
+use dc_entail::Site;
 use dc_syntax::Side;
 use std::alloc::{AllocError, Global};
 use std::test::Fail;
@@ -8,8 +8,8 @@ const NEW: Side = Side::New;
 
 const OLD: Side = Side::Old;
 
-fn reads(alloc: Global, place: Place, words: &str) -> Result<bool, AllocError> {
-    let text = format!(in alloc; "{place}")?;
+fn reads(alloc: Global, site: Site, words: &str) -> Result<bool, AllocError> {
+    let text = format!(in alloc; "{site}")?;
     Ok(text.as_str() == words)
 }
 
@@ -17,16 +17,16 @@ fn reads(alloc: Global, place: Place, words: &str) -> Result<bool, AllocError> {
 fn of_rounds(rt: HostRuntime) -> Result<(), Fail> {
     let side = NEW;
     let [row, edge] = [12, 7];
-    let entry = Place::EntryRow { side, case: 0, row };
-    let after = Place::EdgeRow { side, edge, row };
+    let entry = Site::EntryRow { side, case: 0, row };
+    let after = Site::EdgeRow { side, edge, row };
     let location = 2;
     let rows = [
-        (Place::When { case: 3 }, "when 3"),
+        (Site::When { case: 3 }, "when 3"),
         (entry, "new entry case 0 row 12"),
-        (Place::Edge { side: OLD, edge }, "old edge 7"),
+        (Site::Edge { side: OLD, edge }, "old edge 7"),
         (after, "new edge 7 row 12"),
         (
-            Place::Prune {
+            Site::Prune {
                 side,
                 location,
                 row,
@@ -34,8 +34,8 @@ fn of_rounds(rt: HostRuntime) -> Result<(), Fail> {
             "new prune 2 row 12",
         ),
     ];
-    for (place, words) in rows {
-        assert!(rt; reads(rt.alloc(), place, words)?);
+    for (site, words) in rows {
+        assert!(rt; reads(rt.alloc(), site, words)?);
     }
     Ok(())
 }
@@ -46,19 +46,19 @@ fn of_keeps(rt: HostRuntime) -> Result<(), Fail> {
     let [case, edge, atom] = [1, 10, 4];
     let rows = [
         (
-            Place::KeptEntry { side, case, atom },
+            Site::KeptEntry { side, case, atom },
             "new kept entry case 1 atom 4",
         ),
-        (Place::KeptEdge { side: OLD, edge: 0 }, "old kept edge 0"),
+        (Site::KeptEdge { side: OLD, edge: 0 }, "old kept edge 0"),
         (
-            Place::KeptAtom { side, edge, atom },
+            Site::KeptAtom { side, edge, atom },
             "new kept edge 10 atom 4",
         ),
-        (Place::Exit { side: OLD }, "old exit"),
-        (Place::Main, "main"),
+        (Site::Exit { side: OLD }, "old exit"),
+        (Site::Main, "main"),
     ];
-    for (place, words) in rows {
-        assert!(rt; reads(rt.alloc(), place, words)?);
+    for (site, words) in rows {
+        assert!(rt; reads(rt.alloc(), site, words)?);
     }
     Ok(())
 }

@@ -1,4 +1,4 @@
--- Places after a write: which have links, and which numbers these are.
+-- Slots after a write: which have links, and which numbers these are.
 use Rattle.std.proofs.Common.{◌≡◌, ◌≢◌, ℕ, zero, suc, ◌+◌, ◌<◌, ◌≤◌, ◌⊎◌, inl, inr, true, false, is_some, List, [], ◌∷◌, length, Option, Some, None, refl, sym, ◌∙◌, ap, arith}
 use Rattle.std.proofs.Math.ListN.{set, length-set}
 use Rattle.std.specs.List.{AllByRecursion}
@@ -6,9 +6,9 @@ use Rattle.std.proofs.lemmas.Bool.{cases_lt, cases_eq, both_ways, cases_Bool, eq
 use Rattle.std.proofs.lemmas.List.{get_or-set_same, get_or-set_other}
 use Rattle.dc_worklist.specs.declared.work_list.Links.{Links}
 use Rattle.dc_worklist.specs.Listed.{Rising, is_listed, with_number}
-use Rattle.dc_worklist.specs.Links.{place_at, is_linked, linked_from, IsNext, followed, preceded, with_after, with_before}
+use Rattle.dc_worklist.specs.Links.{slot_at, is_linked, linked_from, IsNext, followed, preceded, with_after, with_before}
 
--- a place with links is one of the list
+-- a slot with links is one of the list
 pub linked_below : (ps : List (Option Links)) (k : ℕ) → is_linked ps k ≡ true → k < length ps
 linked_below [] k h = absurd (both_ways (is_linked [] k) refl h)
 linked_below (p ∷ ps) zero h = omega arith
@@ -35,7 +35,7 @@ listed_is n (Some p ∷ ps) zero = rw (eq-eqb (n + 0) n (omega arith)) refl
 listed_is n (Some p ∷ ps) (suc i) =
     rw (ne_eqb (n + suc i) n (λ e. omega arith)) (ap (λ k. is_listed k (linked_from (suc n) ps)) (let e : n + suc i ≡ suc n + i = omega arith in e) ∙ listed_is (suc n) ps i)
 
--- other links in the same places
+-- other links in the same slots
 pub same_numbers : (n : ℕ) (ps qs : List (Option Links)) → length ps ≡ length qs → ((i : ℕ) → is_linked ps i ≡ is_linked qs i) → linked_from n ps ≡ linked_from n qs
 same_numbers n [] [] l h = refl
 same_numbers n [] (q ∷ qs) l h = absurd (omega arith)
@@ -46,7 +46,7 @@ same_numbers n (None ∷ ps) (Some q ∷ qs) l h = absurd (both_ways true (sym (
 same_numbers n (Some p ∷ ps) (None ∷ qs) l h = absurd (both_ways true (h 0) refl)
 
 -- links where there were none
-pub added_number : (n : ℕ) (ps : List (Option Links)) (i : ℕ) (q : Links) → i < length ps → place_at ps i ≡ None → linked_from n (set ps i (Some q)) ≡ with_number (n + i) (linked_from n ps)
+pub added_number : (n : ℕ) (ps : List (Option Links)) (i : ℕ) (q : Links) → i < length ps → slot_at ps i ≡ None → linked_from n (set ps i (Some q)) ≡ with_number (n + i) (linked_from n ps)
 added_number n [] i q l e = absurd (omega arith)
 added_number n (None ∷ ps) zero q l e = sym (ap (λ k. with_number k (linked_from (suc n) ps)) (let f : n + 0 ≡ n = omega arith in f) ∙ first n (linked_from (suc n) ps) (from_least (suc n) ps))
   where
@@ -86,54 +86,54 @@ preceded_some j (Some p) = refl
 -- what was there, and what is named now
 pub record WasAfter (ps : List (Option Links)) (k j : Option ℕ) (i : ℕ) (q : Links) : Type 0 where
   pub old : Links
-  pub was : place_at ps i ≡ Some old
+  pub was : slot_at ps i ≡ Some old
   pub before : q.before ≡ old.before
   pub after : ((Some i ≡ k) × (q.after ≡ j)) ⊎ ((Some i ≢ k) × (q.after ≡ old.after))
 
 pub record WasBefore (ps : List (Option Links)) (k j : Option ℕ) (i : ℕ) (q : Links) : Type 0 where
   pub old : Links
-  pub was : place_at ps i ≡ Some old
+  pub was : slot_at ps i ≡ Some old
   pub after : q.after ≡ old.after
   pub before : ((Some i ≡ k) × (q.before ≡ j)) ⊎ ((Some i ≢ k) × (q.before ≡ old.before))
 
 some_same : (k i : ℕ) → Some i ≡ Some k → i ≡ k
 some_same k i e = cc
 
-is_at : (ps : List (Option Links)) (k i : ℕ) (o : Option Links) (q : Links) → is_linked ps k ≡ is_some o → place_at (set ps k o) i ≡ Some q → ((i ≡ k) × (o ≡ Some q)) ⊎ ((i ≢ k) × (place_at ps i ≡ Some q))
+is_at : (ps : List (Option Links)) (k i : ℕ) (o : Option Links) (q : Links) → is_linked ps k ≡ is_some o → slot_at (set ps k o) i ≡ Some q → ((i ≡ k) × (o ≡ Some q)) ⊎ ((i ≢ k) × (slot_at ps i ≡ Some q))
 is_at ps k i o q s h = elim (cases_eq i k) [
   | inl e ↦ elim (cases_lt k (length ps)) [
-    | inl l ↦ inl (e, sym (get_or-set_same ps k o None l) ∙ ap (λ x. place_at (set ps k o) x) (sym e) ∙ h)
-    | inr l ↦ let f : is_linked (set ps k o) k ≡ true = ap is_some (ap (λ x. place_at (set ps k o) x) (sym e) ∙ h) in
+    | inl l ↦ inl (e, sym (get_or-set_same ps k o None l) ∙ ap (λ x. slot_at (set ps k o) x) (sym e) ∙ h)
+    | inr l ↦ let f : is_linked (set ps k o) k ≡ true = ap is_some (ap (λ x. slot_at (set ps k o) x) (sym e) ∙ h) in
         let b = linked_below (set ps k o) k f in absurd (omega (arith, length-set ps k o))
   ]
   | inr n ↦ inr (n, sym (get_or-set_other ps k i o None n) ∙ h)
 ]
 
-pub after_was : (ps : List (Option Links)) (k j : Option ℕ) (i : ℕ) (q : Links) → place_at (with_after k j ps) i ≡ Some q → WasAfter ps k j i q
+pub after_was : (ps : List (Option Links)) (k j : Option ℕ) (i : ℕ) (q : Links) → slot_at (with_after k j ps) i ≡ Some q → WasAfter ps k j i q
 after_was ps None j i q h = record { old = q; was = h; before = refl; after = inr ((λ e. cc), refl) }
-after_was ps (Some k) j i q h = elim (is_at ps k i (followed j (place_at ps k)) q (sym (followed_some j (place_at ps k))) h) [
-  | inl e ↦ here (place_at ps k) refl e.0 e.1
+after_was ps (Some k) j i q h = elim (is_at ps k i (followed j (slot_at ps k)) q (sym (followed_some j (slot_at ps k))) h) [
+  | inl e ↦ here (slot_at ps k) refl e.0 e.1
   | inr e ↦ record { old = q; was = e.1; before = refl; after = inr ((λ s. e.0 (some_same k i s)), refl) }
 ]
   where
-    here : (o : Option Links) → place_at ps k ≡ o → i ≡ k → followed j o ≡ Some q → WasAfter ps (Some k) j i q
+    here : (o : Option Links) → slot_at ps k ≡ o → i ≡ k → followed j o ≡ Some q → WasAfter ps (Some k) j i q
     here None w s f = absurd (cc)
     here (Some p) w s f =
         let g : record { before = p.before; after = j } ≡ q = cc in
-        record { old = p; was = ap (place_at ps) s ∙ w; before = sym (ap (λ (x : Links). x.before) g); after = inl (ap Some s, sym (ap (λ (x : Links). x.after) g)) }
+        record { old = p; was = ap (slot_at ps) s ∙ w; before = sym (ap (λ (x : Links). x.before) g); after = inl (ap Some s, sym (ap (λ (x : Links). x.after) g)) }
 
-pub before_was : (ps : List (Option Links)) (k j : Option ℕ) (i : ℕ) (q : Links) → place_at (with_before k j ps) i ≡ Some q → WasBefore ps k j i q
+pub before_was : (ps : List (Option Links)) (k j : Option ℕ) (i : ℕ) (q : Links) → slot_at (with_before k j ps) i ≡ Some q → WasBefore ps k j i q
 before_was ps None j i q h = record { old = q; was = h; after = refl; before = inr ((λ e. cc), refl) }
-before_was ps (Some k) j i q h = elim (is_at ps k i (preceded j (place_at ps k)) q (sym (preceded_some j (place_at ps k))) h) [
-  | inl e ↦ here (place_at ps k) refl e.0 e.1
+before_was ps (Some k) j i q h = elim (is_at ps k i (preceded j (slot_at ps k)) q (sym (preceded_some j (slot_at ps k))) h) [
+  | inl e ↦ here (slot_at ps k) refl e.0 e.1
   | inr e ↦ record { old = q; was = e.1; after = refl; before = inr ((λ s. e.0 (some_same k i s)), refl) }
 ]
   where
-    here : (o : Option Links) → place_at ps k ≡ o → i ≡ k → preceded j o ≡ Some q → WasBefore ps (Some k) j i q
+    here : (o : Option Links) → slot_at ps k ≡ o → i ≡ k → preceded j o ≡ Some q → WasBefore ps (Some k) j i q
     here None w s f = absurd (cc)
     here (Some p) w s f =
         let g : record { before = j; after = p.after } ≡ q = cc in
-        record { old = p; was = ap (place_at ps) s ∙ w; after = sym (ap (λ (x : Links). x.after) g); before = inl (ap Some s, sym (ap (λ (x : Links). x.before) g)) }
+        record { old = p; was = ap (slot_at ps) s ∙ w; after = sym (ap (λ (x : Links). x.after) g); before = inl (ap Some s, sym (ap (λ (x : Links). x.before) g)) }
 
 set_linked : (ps : List (Option Links)) (k i : ℕ) (o : Option Links) → is_some o ≡ is_linked ps k → is_linked (set ps k o) i ≡ is_linked ps i
 set_linked ps k i o s = elim (cases_eq i k) [
@@ -149,11 +149,11 @@ set_linked ps k i o s = elim (cases_eq i k) [
 
 pub after_linked : (ps : List (Option Links)) (k j : Option ℕ) (i : ℕ) → is_linked (with_after k j ps) i ≡ is_linked ps i
 after_linked ps None j i = refl
-after_linked ps (Some k) j i = set_linked ps k i _ (followed_some j (place_at ps k))
+after_linked ps (Some k) j i = set_linked ps k i _ (followed_some j (slot_at ps k))
 
 pub before_linked : (ps : List (Option Links)) (k j : Option ℕ) (i : ℕ) → is_linked (with_before k j ps) i ≡ is_linked ps i
 before_linked ps None j i = refl
-before_linked ps (Some k) j i = set_linked ps k i _ (preceded_some j (place_at ps k))
+before_linked ps (Some k) j i = set_linked ps k i _ (preceded_some j (slot_at ps k))
 
 pub length-after : (ps : List (Option Links)) (k j : Option ℕ) → length (with_after k j ps) ≡ length ps
 length-after ps None j = refl
@@ -163,7 +163,7 @@ pub length-before : (ps : List (Option Links)) (k j : Option ℕ) → length (wi
 length-before ps None j = refl
 length-before ps (Some k) j = length-set ps k _
 
--- ---- the numbers rise and are below the number of places
+-- ---- the numbers rise and are below the number of slots
 pub numbers_rise : (n : ℕ) (ps : List (Option Links)) → Rising (linked_from n ps)
 numbers_rise n [] = tt
 numbers_rise n (None ∷ ps) = numbers_rise (suc n) ps
