@@ -16,7 +16,7 @@ use Rattle.dc_syntax.proofs.Inductions.{Stmt-induction}
 use Rattle.dc_affine.specs.Table.{Fact, all_of, some_of, facts_of}
 use Rattle.dc_affine.proofs.TableLaws.{facts_tell}
 use Rattle.dc_graph.specs.Labels.{Label, Arrow, arrow, branch, idle, sets, picks, picks_in, pays, tests}
-use Rattle.dc_graph.specs.Pieces.{Piece, sizes, first, placed, layer, piece, pieces, piece_in, exit_of, arrows_of}
+use Rattle.dc_graph.specs.Pieces.{Piece, sizes, first, all_arrows, layer, piece, pieces, piece_in, exit_of, arrows_of}
 use Rattle.dc_graph.specs.Walks.{Acts, idles, set, picked, picked_in, paid, tested, Walk, done, step, Walks}
 use Rattle.dc_graph.proofs.Parts.{piece_out}
 use Rattle.dc_graph.proofs.Forward.{Run-walk}
@@ -46,14 +46,14 @@ abbrev pub Within : ℕ → ℕ → Arrow → Type 0
 Within lo hi e = (lo ≤ e.from) × (e.from < hi)
 
 abbrev pub Ranged : Piece → Type 0
-Ranged p = (k l : ℕ) (e : Arrow) → Among e (p.place k l) → Within k (k + p.size) e
+Ranged p = (k l : ℕ) (e : Arrow) → Among e (p.arrows k l) → Within k (k + p.size) e
 
-pub placed_ranged : (A : List Stmt) → AllByRecursion (λ S. Ranged (piece S)) A → (k l : ℕ) (e : Arrow) → Among e (placed (pieces A) k l) → Within k (k + sizes (pieces A)) e
-placed_ranged [] h k l e i = elim i [ ]
-placed_ranged (S ∷ R) h k l e i =
-    elim (among-++ ((piece S).place k (first (pieces R) (k + (piece S).size) l)) i) [
+pub laid_ranged : (A : List Stmt) → AllByRecursion (λ S. Ranged (piece S)) A → (k l : ℕ) (e : Arrow) → Among e (all_arrows (pieces A) k l) → Within k (k + sizes (pieces A)) e
+laid_ranged [] h k l e i = elim i [ ]
+laid_ranged (S ∷ R) h k l e i =
+    elim (among-++ ((piece S).arrows k (first (pieces R) (k + (piece S).size) l)) i) [
       | inl j ↦ let w = h.0 k _ e j in (w.0, let u = w.1 in omega arith)
-      | inr j ↦ let w = placed_ranged R h.1 (k + (piece S).size) l e j in (let u = w.0 in omega arith, let u = w.1 in omega arith)
+      | inr j ↦ let w = laid_ranged R h.1 (k + (piece S).size) l e j in (let u = w.0 in omega arith, let u = w.1 in omega arith)
     ]
 
 within_own : (e : Arrow) (k n : ℕ) → e.from ≡ k → Within k (k + (1 + n)) e
@@ -84,28 +84,28 @@ layer_ranged (If c A B) h k l e i =
       | inr j ↦ arms A B h k l e j
     ]
   where
-    arms : (A B : List Stmt) → AllByRecursion (λ S. Ranged (piece S)) A × AllByRecursion (λ S. Ranged (piece S)) B → (k l : ℕ) (e : Arrow) → Among e (placed (pieces A) (k + 1) l ++ placed (pieces B) (k + 1 + sizes (pieces A)) l) → Within k (k + (1 + (sizes (pieces A) + sizes (pieces B)))) e
+    arms : (A B : List Stmt) → AllByRecursion (λ S. Ranged (piece S)) A × AllByRecursion (λ S. Ranged (piece S)) B → (k l : ℕ) (e : Arrow) → Among e (all_arrows (pieces A) (k + 1) l ++ all_arrows (pieces B) (k + 1 + sizes (pieces A)) l) → Within k (k + (1 + (sizes (pieces A) + sizes (pieces B)))) e
     arms A B h k l e i =
-        elim (among-++ (placed (pieces A) (k + 1) l) i) [
-          | inl j ↦ let w = placed_ranged A h.0 (k + 1) l e j in (let u = w.0 in omega arith, let u = w.1 in omega arith)
-          | inr j ↦ let w = placed_ranged B h.1 (k + 1 + sizes (pieces A)) l e j in (let u = w.0 in omega arith, let u = w.1 in omega arith)
+        elim (among-++ (all_arrows (pieces A) (k + 1) l) i) [
+          | inl j ↦ let w = laid_ranged A h.0 (k + 1) l e j in (let u = w.0 in omega arith, let u = w.1 in omega arith)
+          | inr j ↦ let w = laid_ranged B h.1 (k + 1 + sizes (pieces A)) l e j in (let u = w.0 in omega arith, let u = w.1 in omega arith)
         ]
 layer_ranged (IfAny A B) h k l e head = (omega arith, omega arith)
 layer_ranged (IfAny A B) h k l e (tail head) = (omega arith, omega arith)
 layer_ranged (IfAny A B) h k l e (tail (tail i)) =
-    elim (among-++ (placed (pieces A) (k + 1) l) i) [
-      | inl j ↦ let w = placed_ranged A h.0 (k + 1) l e j in (let u = w.0 in omega arith, let u = w.1 in omega arith)
-      | inr j ↦ let w = placed_ranged B h.1 (k + 1 + sizes (pieces A)) l e j in (let u = w.0 in omega arith, let u = w.1 in omega arith)
+    elim (among-++ (all_arrows (pieces A) (k + 1) l) i) [
+      | inl j ↦ let w = laid_ranged A h.0 (k + 1) l e j in (let u = w.0 in omega arith, let u = w.1 in omega arith)
+      | inr j ↦ let w = laid_ranged B h.1 (k + 1 + sizes (pieces A)) l e j in (let u = w.0 in omega arith, let u = w.1 in omega arith)
     ]
 layer_ranged (While c A) h k l e i =
     elim (among-++ (branch k (first (pieces A) (k + 1) k) (facts_of c false) ++ branch k l (facts_of c true)) i) [
       | inl j ↦ elim (among-++ (branch k (first (pieces A) (k + 1) k) (facts_of c false)) j) [ inl m ↦ from_branch k _ (sizes (pieces A)) _ e m | inr m ↦ from_branch k _ (sizes (pieces A)) _ e m ]
-      | inr j ↦ let w = placed_ranged A h (k + 1) k e j in (let u = w.0 in omega arith, let u = w.1 in omega arith)
+      | inr j ↦ let w = laid_ranged A h (k + 1) k e j in (let u = w.0 in omega arith, let u = w.1 in omega arith)
     ]
 layer_ranged (WhileAny A) h k l e head = (omega arith, omega arith)
 layer_ranged (WhileAny A) h k l e (tail head) = (omega arith, omega arith)
 layer_ranged (WhileAny A) h k l e (tail (tail i)) =
-    let w = placed_ranged A h (k + 1) k e i in (let u = w.0 in omega arith, let u = w.1 in omega arith)
+    let w = laid_ranged A h (k + 1) k e i in (let u = w.0 in omega arith, let u = w.1 in omega arith)
 
 pub piece_ranged : (S : Stmt) → Ranged (piece S)
 piece_ranged S = Stmt-induction (λ T. Ranged (piece T)) (λ L h. subst Ranged (sym (fold-roll-Stmt Piece layer L)) (layer_ranged L h)) S
@@ -114,8 +114,8 @@ pub block_ranged : (A : List Stmt) → AllByRecursion (λ S. Ranged (piece S)) A
 block_ranged [] = tt
 block_ranged (S ∷ R) = (piece_ranged S, block_ranged R)
 
-pub ranged : (A : List Stmt) (k l : ℕ) (e : Arrow) → Among e (placed (pieces A) k l) → Within k (k + sizes (pieces A)) e
-ranged A k l e i = placed_ranged A (block_ranged A) k l e i
+pub ranged : (A : List Stmt) (k l : ℕ) (e : Arrow) → Among e (all_arrows (pieces A) k l) → Within k (k + sizes (pieces A)) e
+ranged A k l e i = laid_ranged A (block_ranged A) k l e i
 
 -- ---- the graph has no other edges from these numbers
 abbrev pub Only : List Arrow → ℕ → ℕ → List Arrow → Type 0
@@ -144,10 +144,10 @@ pub record Peeled (E : List Arrow) (R : State → ℤ → State → Type 0) (n l
   pub shorter : left ≤ n
 
 abbrev pub Peels : List Arrow → ℕ → ℕ → Type 0
-Peels E x b = (A : List Stmt) (k l n : ℕ) (s : State) (c : ℤ) (t : State) → n ≤ b → Only E k (k + sizes (pieces A)) (placed (pieces A) k l) → Outside x k (k + sizes (pieces A)) → Walk E n (first (pieces A) k l) s c x t → Peeled E (Run A) n l x s c t
+Peels E x b = (A : List Stmt) (k l n : ℕ) (s : State) (c : ℤ) (t : State) → n ≤ b → Only E k (k + sizes (pieces A)) (all_arrows (pieces A) k l) → Outside x k (k + sizes (pieces A)) → Walk E n (first (pieces A) k l) s c x t → Peeled E (Run A) n l x s c t
 
 abbrev pub PeelsOne : List Arrow → ℕ → ℕ → Type 0
-PeelsOne E x b = (L : Stmt-F Stmt) (k l n : ℕ) (s : State) (c : ℤ) (t : State) → n ≤ b → Only E k (k + (piece_in L).size) ((piece_in L).place k l) → Outside x k (k + (piece_in L).size) → Walk E n k s c x t → Peeled E (One L) n l x s c t
+PeelsOne E x b = (L : Stmt-F Stmt) (k l n : ℕ) (s : State) (c : ℤ) (t : State) → n ≤ b → Only E k (k + (piece_in L).size) ((piece_in L).arrows k l) → Outside x k (k + (piece_in L).size) → Walk E n k s c x t → Peeled E (One L) n l x s c t
 
 peel_more : (E : List Arrow) (S : Stmt) (R : List Stmt) (n f l x : ℕ) (s : State) (c : ℤ) (t : State) (q : Peeled E (One (out-Stmt S)) n f x s c t) → Peeled E (Run R) q.left l x q.middle q.left_cost t → Peeled E (Run (S ∷ R)) n l x s c t
 peel_more E S R n f l x s c t q r =
@@ -163,13 +163,13 @@ peel_list E x b H [] k l n s c t le o out p = record { middle = s; cost = pos 0;
 peel_list E x b H (S ∷ R) k l n s c t le o out p =
     let j : ℕ = k + (piece S).size in
     let f : ℕ = first (pieces R) j l in
-    let o1 : Only E k (k + (piece S).size) ((piece S).place k f) =
-    only_first E k (k + ((piece S).size + sizes (pieces R))) (k + (piece S).size) ((piece S).place k f) (placed (pieces R) j l) o (omega arith) (λ e i. (ranged R j l e i).0) in
-    let o2 : Only E (k + (piece S).size) (k + ((piece S).size + sizes (pieces R))) (placed (pieces R) j l) =
-    only_last E k (k + ((piece S).size + sizes (pieces R))) (k + (piece S).size) ((piece S).place k f) (placed (pieces R) j l) o (omega arith) (λ e i. (piece_ranged S k f e i).1) in
+    let o1 : Only E k (k + (piece S).size) ((piece S).arrows k f) =
+    only_first E k (k + ((piece S).size + sizes (pieces R))) (k + (piece S).size) ((piece S).arrows k f) (all_arrows (pieces R) j l) o (omega arith) (λ e i. (ranged R j l e i).0) in
+    let o2 : Only E (k + (piece S).size) (k + ((piece S).size + sizes (pieces R))) (all_arrows (pieces R) j l) =
+    only_last E k (k + ((piece S).size + sizes (pieces R))) (k + (piece S).size) ((piece S).arrows k f) (all_arrows (pieces R) j l) o (omega arith) (λ e i. (piece_ranged S k f e i).1) in
     let q : Peeled E (One (out-Stmt S)) n f x s c t =
     H (out-Stmt S) k f n s c t le
-    (subst (λ (p : Piece). Only E k (k + p.size) (p.place k f)) (piece_out S) o1)
+    (subst (λ (p : Piece). Only E k (k + p.size) (p.arrows k f)) (piece_out S) o1)
     (subst (λ (p : Piece). Outside x k (k + p.size)) (piece_out S) (λ g h. out g (omega arith))) p in
     let w : q.left ≤ n = q.shorter in
     let r : Peeled E (Run R) q.left l x q.middle q.left_cost t =
@@ -237,7 +237,7 @@ armed E A L n l x s m c d t z e conv r =
 -- after a step without cost, a turn and the rest of the loop
 turned : (E : List Arrow) (x b : ℕ) → PeelsOne E x b → (A : List Stmt) (L : Stmt-F Stmt) (n k l : ℕ) (s m : State) (c d : ℤ) (t : State) → n ≤ b → c ≡ pos 0 → m ≡ s
     → ((u v : ℤ) (w y : State) → Run A s u w → One L w v y → One L s (u +ℤ v) y)
-    → Only E k (k + (piece_in L).size) ((piece_in L).place k l) → Outside x k (k + (piece_in L).size)
+    → Only E k (k + (piece_in L).size) ((piece_in L).arrows k l) → Outside x k (k + (piece_in L).size)
     → Peeled E (Run A) n k x m d t → Peeled E (One L) (suc n) l x s (c +ℤ d) t
 turned E x b H A L n k l s m c d t le z e conv o out r =
     let v : r.left ≤ n = r.shorter in
@@ -260,26 +260,26 @@ own_two k j g a b e i = elim (among-two i) [ inl h ↦ ap (λ (x : Arrow). x.fro
 inner : (E : List Arrow) (k n : ℕ) (own es : List Arrow) → ((e : Arrow) → Among e own → e.from ≡ k) → Only E k (k + (1 + n)) (own ++ es) → Only E (k + 1) (k + (1 + n)) es
 inner E k n own es h o = only_last E k (k + (1 + n)) (k + 1) own es o (omega arith) (λ e i. let u = h e i in omega arith)
 
-one_part : (E : List Arrow) (k l : ℕ) (A : List Stmt) → Only E (k + 1) (k + (1 + sizes (pieces A))) (placed (pieces A) (k + 1) l) → Only E (k + 1) (k + 1 + sizes (pieces A)) (placed (pieces A) (k + 1) l)
+one_part : (E : List Arrow) (k l : ℕ) (A : List Stmt) → Only E (k + 1) (k + (1 + sizes (pieces A))) (all_arrows (pieces A) (k + 1) l) → Only E (k + 1) (k + 1 + sizes (pieces A)) (all_arrows (pieces A) (k + 1) l)
 one_part E k l A o e i g h = o e i g (omega arith)
 
-left_part : (E : List Arrow) (k l : ℕ) (A B : List Stmt) → Only E (k + 1) (k + (1 + (sizes (pieces A) + sizes (pieces B)))) (placed (pieces A) (k + 1) l ++ placed (pieces B) (k + 1 + sizes (pieces A)) l) → Only E (k + 1) (k + 1 + sizes (pieces A)) (placed (pieces A) (k + 1) l)
+left_part : (E : List Arrow) (k l : ℕ) (A B : List Stmt) → Only E (k + 1) (k + (1 + (sizes (pieces A) + sizes (pieces B)))) (all_arrows (pieces A) (k + 1) l ++ all_arrows (pieces B) (k + 1 + sizes (pieces A)) l) → Only E (k + 1) (k + 1 + sizes (pieces A)) (all_arrows (pieces A) (k + 1) l)
 left_part E k l A B o = only_first E _ _ (k + 1 + sizes (pieces A)) _ _ o (omega arith) (λ e i. (ranged B _ l e i).0)
 
-right_part : (E : List Arrow) (k l : ℕ) (A B : List Stmt) → Only E (k + 1) (k + (1 + (sizes (pieces A) + sizes (pieces B)))) (placed (pieces A) (k + 1) l ++ placed (pieces B) (k + 1 + sizes (pieces A)) l) → Only E (k + 1 + sizes (pieces A)) (k + 1 + sizes (pieces A) + sizes (pieces B)) (placed (pieces B) (k + 1 + sizes (pieces A)) l)
+right_part : (E : List Arrow) (k l : ℕ) (A B : List Stmt) → Only E (k + 1) (k + (1 + (sizes (pieces A) + sizes (pieces B)))) (all_arrows (pieces A) (k + 1) l ++ all_arrows (pieces B) (k + 1 + sizes (pieces A)) l) → Only E (k + 1 + sizes (pieces A)) (k + 1 + sizes (pieces A) + sizes (pieces B)) (all_arrows (pieces B) (k + 1 + sizes (pieces A)) l)
 right_part E k l A B o e i g h = only_last E _ _ (k + 1 + sizes (pieces A)) _ _ o (omega arith) (λ e i. (ranged A _ l e i).1) e i g (omega arith)
 
 -- an arrow from k is none of an arm's
-no_arm : (k j l : ℕ) (a : Label) (A : List Stmt) → Among (arrow k j a) (placed (pieces A) (k + 1) l) → ⊥
+no_arm : (k j l : ℕ) (a : Label) (A : List Stmt) → Among (arrow k j a) (all_arrows (pieces A) (k + 1) l) → ⊥
 no_arm k j l a A i = let u = (ranged A (k + 1) l _ i).0 in omega arith
 
-no_arms : (k j l : ℕ) (a : Label) (A B : List Stmt) → Among (arrow k j a) (placed (pieces A) (k + 1) l ++ placed (pieces B) (k + 1 + sizes (pieces A)) l) → ⊥
-no_arms k j l a A B i = elim (among-++ (placed (pieces A) (k + 1) l) i) [ inl h ↦ no_arm k j l a A h | inr h ↦ (let u = (ranged B (k + 1 + sizes (pieces A)) l _ h).0 in omega arith) ]
+no_arms : (k j l : ℕ) (a : Label) (A B : List Stmt) → Among (arrow k j a) (all_arrows (pieces A) (k + 1) l ++ all_arrows (pieces B) (k + 1 + sizes (pieces A)) l) → ⊥
+no_arms k j l a A B i = elim (among-++ (all_arrows (pieces A) (k + 1) l) i) [ inl h ↦ no_arm k j l a A h | inr h ↦ (let u = (ranged B (k + 1 + sizes (pieces A)) l _ h).0 in omega arith) ]
 
 -- the step of a statement, and the rest
 abbrev pub Steps : List Arrow → ℕ → ℕ → Stmt-F Stmt → Type 0
-Steps E x b L = (k l n j : ℕ) (a : Label) (s m : State) (c d : ℤ) (t : State) → n ≤ b → Only E k (k + (piece_in L).size) ((piece_in L).place k l) → Outside x k (k + (piece_in L).size)
-    → Among (arrow k j a) ((piece_in L).place k l) → Acts a s c m → Walk E n j m d x t → Peeled E (One L) (suc n) l x s (c +ℤ d) t
+Steps E x b L = (k l n j : ℕ) (a : Label) (s m : State) (c d : ℤ) (t : State) → n ≤ b → Only E k (k + (piece_in L).size) ((piece_in L).arrows k l) → Outside x k (k + (piece_in L).size)
+    → Among (arrow k j a) ((piece_in L).arrows k l) → Acts a s c m → Walk E n j m d x t → Peeled E (One L) (suc n) l x s (c +ℤ d) t
 
 step_if : (E : List Arrow) (x b : ℕ) → Peels E x b → (q : Cond) (A B : List Stmt) → Steps E x b (If q A B)
 step_if E x b P q A B k l n j a s m c d t le o out i h p =
@@ -288,7 +288,7 @@ step_if E x b P q A B k l n j a s m c d t le o out i h p =
       | inr u ↦ absurd (no_arms k j l a A B u)
     ]
   where
-    parts : Only E (k + 1) (k + (1 + (sizes (pieces A) + sizes (pieces B)))) (placed (pieces A) (k + 1) l ++ placed (pieces B) (k + 1 + sizes (pieces A)) l)
+    parts : Only E (k + 1) (k + (1 + (sizes (pieces A) + sizes (pieces B)))) (all_arrows (pieces A) (k + 1) l ++ all_arrows (pieces B) (k + 1 + sizes (pieces A)) l)
     parts = inner E k (sizes (pieces A) + sizes (pieces B)) (branch k (first (pieces A) (k + 1) l) (facts_of q false) ++ branch k (first (pieces B) (k + 1 + sizes (pieces A)) l) (facts_of q true)) _ (own_branches k _ _ _ _) o
 
     yes : Branched k (first (pieces A) (k + 1) l) (facts_of q false) (arrow k j a) → Peeled E (One (If q A B)) (suc n) l x s (c +ℤ d) t
@@ -310,7 +310,7 @@ step_if_any E x b P A B k l n j a s m c d t le o out i h p =
       | inr u ↦ absurd (no_arms k j l a A B u)
     ]
   where
-    parts : Only E (k + 1) (k + (1 + (sizes (pieces A) + sizes (pieces B)))) (placed (pieces A) (k + 1) l ++ placed (pieces B) (k + 1 + sizes (pieces A)) l)
+    parts : Only E (k + 1) (k + (1 + (sizes (pieces A) + sizes (pieces B)))) (all_arrows (pieces A) (k + 1) l ++ all_arrows (pieces B) (k + 1 + sizes (pieces A)) l)
     parts = inner E k (sizes (pieces A) + sizes (pieces B)) (arrow k (first (pieces A) (k + 1) l) idle ∷ arrow k (first (pieces B) (k + 1 + sizes (pieces A)) l) idle ∷ []) _ (own_two k _ _ _ _) o
 
     yes : arrow k j a ≡ arrow k (first (pieces A) (k + 1) l) idle → Peeled E (One (IfAny A B)) (suc n) l x s (c +ℤ d) t
@@ -332,7 +332,7 @@ step_while E x b P H q A k l n j a s m c d t le o out i h p =
       | inr u ↦ absurd (no_arm k j k a A u)
     ]
   where
-    parts : Only E (k + 1) (k + (1 + sizes (pieces A))) (placed (pieces A) (k + 1) k)
+    parts : Only E (k + 1) (k + (1 + sizes (pieces A))) (all_arrows (pieces A) (k + 1) k)
     parts = inner E k (sizes (pieces A)) (branch k (first (pieces A) (k + 1) k) (facts_of q false) ++ branch k l (facts_of q true)) _ (own_branches k _ _ _ _) o
 
     yes : Branched k (first (pieces A) (k + 1) k) (facts_of q false) (arrow k j a) → Peeled E (One (While q A)) (suc n) l x s (c +ℤ d) t
@@ -351,7 +351,7 @@ step_while_any E x b P H A k l n j a s m c d t le o out i h p =
       | inr u ↦ absurd (no_arm k j k a A u)
     ]
   where
-    parts : Only E (k + 1) (k + (1 + sizes (pieces A))) (placed (pieces A) (k + 1) k)
+    parts : Only E (k + 1) (k + (1 + sizes (pieces A))) (all_arrows (pieces A) (k + 1) k)
     parts = inner E k (sizes (pieces A)) (arrow k (first (pieces A) (k + 1) k) idle ∷ arrow k l idle ∷ []) _ (own_two k _ _ _ _) o
 
     yes : arrow k j a ≡ arrow k (first (pieces A) (k + 1) k) idle → Peeled E (One (WhileAny A)) (suc n) l x s (c +ℤ d) t
@@ -393,7 +393,7 @@ peel_none : (E : List Arrow) (b x : ℕ) (L : Stmt-F Stmt) (k l n : ℕ) (s : St
 peel_none E b x L k l n s c t le out done = absurd (not_here L k out)
 peel_none E b x L k l n s c t le out (step j a i h p) = absurd (omega arith)
 
-peel_some : (E : List Arrow) (b x : ℕ) → Peels E x b → PeelsOne E x b → (L : Stmt-F Stmt) (k l n : ℕ) (s : State) (c : ℤ) (t : State) → n ≤ suc b → Only E k (k + (piece_in L).size) ((piece_in L).place k l) → Outside x k (k + (piece_in L).size) → Walk E n k s c x t → Peeled E (One L) n l x s c t
+peel_some : (E : List Arrow) (b x : ℕ) → Peels E x b → PeelsOne E x b → (L : Stmt-F Stmt) (k l n : ℕ) (s : State) (c : ℤ) (t : State) → n ≤ suc b → Only E k (k + (piece_in L).size) ((piece_in L).arrows k l) → Outside x k (k + (piece_in L).size) → Walk E n k s c x t → Peeled E (One L) n l x s c t
 peel_some E b x P H L k l n s c t le o out done = absurd (not_here L k out)
 peel_some E b x P H L k l n s c t le o out (step {n = y} {m = m} {c = e} {d = d} j a i h p) =
     let u : 0 < (piece_in L).size = positive L in

@@ -10,7 +10,7 @@ use Rattle.dc_syntax.specs.Run.{One, Run, skip, assign, any_of, between, tick, a
 use Rattle.dc_affine.specs.Table.{Fact, all_of, some_of, facts_of}
 use Rattle.dc_affine.proofs.TableLaws.{facts_tell}
 use Rattle.dc_graph.specs.Labels.{Label, Arrow, arrow, branch, idle, sets, picks, picks_in, pays, tests}
-use Rattle.dc_graph.specs.Pieces.{Piece, sizes, first, placed, piece, pieces, piece_in}
+use Rattle.dc_graph.specs.Pieces.{Piece, sizes, first, all_arrows, piece, pieces, piece_in}
 use Rattle.dc_graph.specs.Walks.{Acts, idles, set, picked, picked_in, paid, tested, Walk, done, step, Walks}
 use Rattle.dc_graph.proofs.Parts.{piece_out}
 
@@ -62,7 +62,7 @@ into {E} {k} {j} {l} {s} fs h e q =
     then_walk (tests o.conj) (h _ o.among) (tested o.conj o.holds) q
 
 mutual
-  pub One-walk : {L : Stmt-F Stmt} {s t : State} {c : ℤ} → One L s c t → (E : List Arrow) (k l : ℕ) → Has E ((piece_in L).place k l) → Walks E k s c l t
+  pub One-walk : {L : Stmt-F Stmt} {s t : State} {c : ℤ} → One L s c t → (E : List Arrow) (k l : ℕ) → Has E ((piece_in L).arrows k l) → Walks E k s c l t
   One-walk skip E k l h = one_step idle (h _ head) idles
   One-walk (assign x e) E k l h = one_step (sets x e) (h _ head) (set x e)
   One-walk (any_of x z) E k l h = one_step (picks x) (h _ head) (picked x z)
@@ -87,10 +87,10 @@ mutual
   One-walk (any_turn A r rest) E k l h =
       then_walk idle (h _ head) idles (walk_join (Run-walk r E (k + 1) k (λ e i. h e (tail (tail i)))).1 (One-walk rest E k l h))
 
-  pub Run-walk : {A : List Stmt} {s t : State} {c : ℤ} → Run A s c t → (E : List Arrow) (k l : ℕ) → Has E (placed (pieces A) k l) → Walks E (first (pieces A) k l) s c l t
+  pub Run-walk : {A : List Stmt} {s t : State} {c : ℤ} → Run A s c t → (E : List Arrow) (k l : ℕ) → Has E (all_arrows (pieces A) k l) → Walks E (first (pieces A) k l) s c l t
   Run-walk none E k l h = (0, done)
   Run-walk (more S R one rest) E k l h =
       let j = k + (piece S).size in
       walk_join
-      (One-walk one E k (first (pieces R) j l) (subst (λ (p : Piece). Has E (p.place k (first (pieces R) j l))) (piece_out S) (λ e i. h e (among-left _ i)))).1
+      (One-walk one E k (first (pieces R) j l) (subst (λ (p : Piece). Has E (p.arrows k (first (pieces R) j l))) (piece_out S) (λ e i. h e (among-left _ i)))).1
       (Run-walk rest E j l (λ e i. h e (among-right _ i)))

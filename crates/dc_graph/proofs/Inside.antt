@@ -9,7 +9,7 @@ use Rattle.dc_syntax.specs.Trees.{EachStmt}
 use Rattle.dc_syntax.proofs.Inductions.{Stmt-induction}
 use Rattle.dc_affine.specs.Table.{Fact, facts_of}
 use Rattle.dc_graph.specs.Labels.{Label, Arrow, arrow, branch, idle}
-use Rattle.dc_graph.specs.Pieces.{Piece, sizes, first, placed, layer, piece, pieces, piece_in, exit_of, arrows_of}
+use Rattle.dc_graph.specs.Pieces.{Piece, sizes, first, all_arrows, layer, piece, pieces, piece_in, exit_of, arrows_of}
 use Rattle.dc_graph.proofs.Back.{among-branch, ranged, positive}
 use Rattle.dc_graph.proofs.Parts.{piece_out}
 
@@ -18,7 +18,7 @@ abbrev Inside : ℕ → ℕ → ℕ → ℕ → Type 0
 Inside k h l j = ((k ≤ j) × (j < h)) ⊎ (j ≡ l)
 
 abbrev Aimed : Piece → Type 0
-Aimed p = (k l : ℕ) (e : Arrow) → Among e (p.place k l) → Inside k (k + p.size) l e.to
+Aimed p = (k l : ℕ) (e : Arrow) → Among e (p.arrows k l) → Inside k (k + p.size) l e.to
 
 wider : (k h i g l j : ℕ) → i ≤ k → h ≤ g → Inside k h l j → Inside i g l j
 wider k h i g l j a b (inl t) = inl (let u = t.0 in omega arith, let u = t.1 in omega arith)
@@ -38,14 +38,14 @@ begun : (A : List Stmt) (k l : ℕ) → Inside k (k + sizes (pieces A)) l (first
 begun [] k l = inr refl
 begun (S ∷ R) k l = let u = piece_positive S in inl (omega arith, omega arith)
 
-placed_aimed : (A : List Stmt) → AllByRecursion (λ S. Aimed (piece S)) A → (k l : ℕ) (e : Arrow) → Among e (placed (pieces A) k l) → Inside k (k + sizes (pieces A)) l e.to
-placed_aimed [] h k l e i = elim i [ ]
-placed_aimed (S ∷ R) h k l e i =
-    elim (among-++ ((piece S).place k (first (pieces R) (k + (piece S).size) l)) i) [
+laid_aimed : (A : List Stmt) → AllByRecursion (λ S. Aimed (piece S)) A → (k l : ℕ) (e : Arrow) → Among e (all_arrows (pieces A) k l) → Inside k (k + sizes (pieces A)) l e.to
+laid_aimed [] h k l e i = elim i [ ]
+laid_aimed (S ∷ R) h k l e i =
+    elim (among-++ ((piece S).arrows k (first (pieces R) (k + (piece S).size) l)) i) [
       | inl j ↦ through k (k + (piece S).size) k (k + ((piece S).size + sizes (pieces R))) (first (pieces R) (k + (piece S).size) l) l e.to (omega arith) (omega arith)
           (wider (k + (piece S).size) (k + (piece S).size + sizes (pieces R)) k (k + ((piece S).size + sizes (pieces R))) l _ (omega arith) (omega arith) (begun R (k + (piece S).size) l))
           (h.0 k (first (pieces R) (k + (piece S).size) l) e j)
-      | inr j ↦ wider (k + (piece S).size) (k + (piece S).size + sizes (pieces R)) k (k + ((piece S).size + sizes (pieces R))) l e.to (omega arith) (omega arith) (placed_aimed R h.1 (k + (piece S).size) l e j)
+      | inr j ↦ wider (k + (piece S).size) (k + (piece S).size + sizes (pieces R)) k (k + ((piece S).size + sizes (pieces R))) l e.to (omega arith) (omega arith) (laid_aimed R h.1 (k + (piece S).size) l e j)
     ]
 
 to_branch : (k j : ℕ) (fs : List (List Fact)) (e : Arrow) → Among e (branch k j fs) → e.to ≡ j
@@ -67,15 +67,15 @@ right_begun A B k l = wider (k + 1 + sizes (pieces A)) (k + 1 + sizes (pieces A)
 turn_begun : (A : List Stmt) (k l : ℕ) → Inside k (k + (1 + sizes (pieces A))) l (first (pieces A) (k + 1) k)
 turn_begun A k l = through (k + 1) (k + 1 + sizes (pieces A)) k (k + (1 + sizes (pieces A))) k l (first (pieces A) (k + 1) k) (omega arith) (omega arith) (inl (omega arith, omega arith)) (begun A (k + 1) k)
 
-arms : (A B : List Stmt) → AllByRecursion (λ S. Aimed (piece S)) A × AllByRecursion (λ S. Aimed (piece S)) B → (k l : ℕ) (e : Arrow) → Among e (placed (pieces A) (k + 1) l ++ placed (pieces B) (k + 1 + sizes (pieces A)) l) → Inside k (k + (1 + (sizes (pieces A) + sizes (pieces B)))) l e.to
+arms : (A B : List Stmt) → AllByRecursion (λ S. Aimed (piece S)) A × AllByRecursion (λ S. Aimed (piece S)) B → (k l : ℕ) (e : Arrow) → Among e (all_arrows (pieces A) (k + 1) l ++ all_arrows (pieces B) (k + 1 + sizes (pieces A)) l) → Inside k (k + (1 + (sizes (pieces A) + sizes (pieces B)))) l e.to
 arms A B h k l e i =
-    elim (among-++ (placed (pieces A) (k + 1) l) i) [
-      | inl j ↦ wider (k + 1) (k + 1 + sizes (pieces A)) k (k + (1 + (sizes (pieces A) + sizes (pieces B)))) l e.to (omega arith) (omega arith) (placed_aimed A h.0 (k + 1) l e j)
-      | inr j ↦ wider (k + 1 + sizes (pieces A)) (k + 1 + sizes (pieces A) + sizes (pieces B)) k (k + (1 + (sizes (pieces A) + sizes (pieces B)))) l e.to (omega arith) (omega arith) (placed_aimed B h.1 (k + 1 + sizes (pieces A)) l e j)
+    elim (among-++ (all_arrows (pieces A) (k + 1) l) i) [
+      | inl j ↦ wider (k + 1) (k + 1 + sizes (pieces A)) k (k + (1 + (sizes (pieces A) + sizes (pieces B)))) l e.to (omega arith) (omega arith) (laid_aimed A h.0 (k + 1) l e j)
+      | inr j ↦ wider (k + 1 + sizes (pieces A)) (k + 1 + sizes (pieces A) + sizes (pieces B)) k (k + (1 + (sizes (pieces A) + sizes (pieces B)))) l e.to (omega arith) (omega arith) (laid_aimed B h.1 (k + 1 + sizes (pieces A)) l e j)
     ]
 
-turn : (A : List Stmt) → AllByRecursion (λ S. Aimed (piece S)) A → (k l : ℕ) (e : Arrow) → Among e (placed (pieces A) (k + 1) k) → Inside k (k + (1 + sizes (pieces A))) l e.to
-turn A h k l e i = through (k + 1) (k + 1 + sizes (pieces A)) k (k + (1 + sizes (pieces A))) k l e.to (omega arith) (omega arith) (inl (omega arith, omega arith)) (placed_aimed A h (k + 1) k e i)
+turn : (A : List Stmt) → AllByRecursion (λ S. Aimed (piece S)) A → (k l : ℕ) (e : Arrow) → Among e (all_arrows (pieces A) (k + 1) k) → Inside k (k + (1 + sizes (pieces A))) l e.to
+turn A h k l e i = through (k + 1) (k + 1 + sizes (pieces A)) k (k + (1 + sizes (pieces A))) k l e.to (omega arith) (omega arith) (inl (omega arith, omega arith)) (laid_aimed A h (k + 1) k e i)
 
 layer_aimed : (L : Stmt-F Stmt) → EachStmt (λ S. Aimed (piece S)) L → Aimed (piece_in L)
 layer_aimed Skip h k l e i = inr (to_one k l _ e i)
@@ -127,7 +127,7 @@ block_aimed (S ∷ R) = (piece_aimed S, block_aimed R)
 pub edges_inside : (A : List Stmt) (e : Arrow) → Among e (arrows_of A) → (e.from < exit_of A) × (e.to ≤ exit_of A)
 edges_inside A e i =
     let r = ranged A 0 (exit_of A) e i in
-    (let u = r.1 in omega arith, by (placed_aimed A (block_aimed A) 0 (exit_of A) e i))
+    (let u = r.1 in omega arith, by (laid_aimed A (block_aimed A) 0 (exit_of A) e i))
   where
     by : Inside 0 (0 + exit_of A) (exit_of A) e.to → e.to ≤ exit_of A
     by (inl t) = (let u = t.1 in omega arith)

@@ -11,7 +11,7 @@ use Rattle.dc_graph.specs.Labels.{Arrow, arrow, branch, idle, sets, picks, picks
 -- goes on at another
 pub record Piece : Type 0 where
   pub size : ℕ
-  pub place : ℕ → ℕ → List Arrow
+  pub arrows : ℕ → ℕ → List Arrow
 
 abbrev pub sizes : List Piece → ℕ
 sizes [] = 0
@@ -24,40 +24,40 @@ first (p ∷ ps) k l = k
 
 -- the edges of a block that stands at k and goes on at l: each statement goes on at the next one,
 -- the last at l
-abbrev pub placed : List Piece → ℕ → ℕ → List Arrow
-placed [] k l = []
-placed (p ∷ ps) k l = p.place k (first ps (k + p.size) l) ++ placed ps (k + p.size) l
+abbrev pub all_arrows : List Piece → ℕ → ℕ → List Arrow
+all_arrows [] k l = []
+all_arrows (p ∷ ps) k l = p.arrows k (first ps (k + p.size) l) ++ all_arrows ps (k + p.size) l
 
 -- the table of the language: a statement at k that goes on at l
 abbrev pub layer : Stmt-F Piece → Piece
-layer Skip = record { size = 1; place = λ k l. arrow k l idle ∷ [] }
-layer (Assign x e) = record { size = 1; place = λ k l. arrow k l (sets x e) ∷ [] }
-layer (AnyOf x) = record { size = 1; place = λ k l. arrow k l (picks x) ∷ [] }
-layer (Between x a b) = record { size = 1; place = λ k l. arrow k l (picks_in x a b) ∷ [] }
-layer (Tick e) = record { size = 1; place = λ k l. arrow k l (pays e) ∷ [] }
-layer (Assume c) = record { size = 1; place = λ k l. branch k l (facts_of c false) }
+layer Skip = record { size = 1; arrows = λ k l. arrow k l idle ∷ [] }
+layer (Assign x e) = record { size = 1; arrows = λ k l. arrow k l (sets x e) ∷ [] }
+layer (AnyOf x) = record { size = 1; arrows = λ k l. arrow k l (picks x) ∷ [] }
+layer (Between x a b) = record { size = 1; arrows = λ k l. arrow k l (picks_in x a b) ∷ [] }
+layer (Tick e) = record { size = 1; arrows = λ k l. arrow k l (pays e) ∷ [] }
+layer (Assume c) = record { size = 1; arrows = λ k l. branch k l (facts_of c false) }
 layer (If c A B) = record {
   size = 1 + (sizes A + sizes B);
-  place =
+  arrows =
       λ k l. (branch k (first A (k + 1) l) (facts_of c false)
       ++ branch k (first B (k + 1 + sizes A) l) (facts_of c true))
-      ++ (placed A (k + 1) l ++ placed B (k + 1 + sizes A) l);
+      ++ (all_arrows A (k + 1) l ++ all_arrows B (k + 1 + sizes A) l);
 }
 layer (IfAny A B) = record {
   size = 1 + (sizes A + sizes B);
-  place =
+  arrows =
       λ k l. (arrow k (first A (k + 1) l) idle ∷ arrow k (first B (k + 1 + sizes A) l) idle ∷ [])
-      ++ (placed A (k + 1) l ++ placed B (k + 1 + sizes A) l);
+      ++ (all_arrows A (k + 1) l ++ all_arrows B (k + 1 + sizes A) l);
 }
 layer (While c A) = record {
   size = 1 + sizes A;
-  place =
+  arrows =
       λ k l. (branch k (first A (k + 1) k) (facts_of c false) ++ branch k l (facts_of c true))
-      ++ placed A (k + 1) k;
+      ++ all_arrows A (k + 1) k;
 }
 layer (WhileAny A) = record {
   size = 1 + sizes A;
-  place = λ k l. (arrow k (first A (k + 1) k) idle ∷ arrow k l idle ∷ []) ++ placed A (k + 1) k;
+  arrows = λ k l. (arrow k (first A (k + 1) k) idle ∷ arrow k l idle ∷ []) ++ all_arrows A (k + 1) k;
 }
 
 abbrev pub piece : Stmt → Piece
@@ -75,4 +75,4 @@ abbrev pub exit_of : List Stmt → ℕ
 exit_of A = sizes (pieces A)
 
 abbrev pub arrows_of : List Stmt → List Arrow
-arrows_of A = placed (pieces A) 0 (exit_of A)
+arrows_of A = all_arrows (pieces A) 0 (exit_of A)

@@ -14,7 +14,7 @@ use Rattle.dc_system.specs.Folded.{Folding, unfolded, fold_least, fold_at, folde
 use Rattle.dc_system.specs.Spots.{IsLeast, Net}
 use Rattle.dc_system.proofs.Filters.{length-filter_less, length-numbers}
 use Rattle.dc_system.proofs.Folds.{joined_at, second_from, second_in}
-use Rattle.dc_system.proofs.Places.{map-push}
+use Rattle.dc_system.proofs.Pushed.{map-push}
 use Rattle.dc_system.proofs.Renumbered.{Kept, foldings_keep, starts, folded_paths, folded_shaped}
 
 -- ---- what the loop keeps
@@ -58,13 +58,13 @@ least_less n x fs (Some t) s gs L e q =
     let r : t ≡ s = cc in
     subst (λ g. length g < length fs) (sym q) (subst (λ (u : Spot). length (folded u.location u.edge fs) < length fs) r (less_edges n x t.location t.edge fs L.0.0))
 
-pub place_of : (n x : ℕ) (fs : List Edge) (o : Option Spot) (s : Spot) → IsLeast n x fs o → o ≡ Some s → s.place < length fs
-place_of n x fs None s L e = cc
-place_of n x fs (Some t) s L e = let r : t ≡ s = cc in subst (λ (u : Spot). u.place < length fs) r L.0.1
+pub index_of_spot : (n x : ℕ) (fs : List Edge) (o : Option Spot) (s : Spot) → IsLeast n x fs o → o ≡ Some s → s.index < length fs
+index_of_spot n x fs None s L e = cc
+index_of_spot n x fs (Some t) s L e = let r : t ≡ s = cc in subst (λ (u : Spot). u.index < length fs) r L.0.1
 
-pub only_of : (n x : ℕ) (fs : List Edge) (o : Option Spot) (s : Spot) → IsLeast n x fs o → o ≡ Some s → (d : Edge) → filter (λ (e : Edge). eqb e.to s.location) fs ≡ get_or fs s.place d ∷ []
+pub only_of : (n x : ℕ) (fs : List Edge) (o : Option Spot) (s : Spot) → IsLeast n x fs o → o ≡ Some s → (d : Edge) → filter (λ (e : Edge). eqb e.to s.location) fs ≡ get_or fs s.index d ∷ []
 only_of n x fs None s L e = cc
-only_of n x fs (Some t) s L e = let r : t ≡ s = cc in subst (λ (u : Spot). (d : Edge) → filter (λ (e : Edge). eqb e.to u.location) fs ≡ get_or fs u.place d ∷ []) r L.0.2
+only_of n x fs (Some t) s L e = let r : t ≡ s = cc in subst (λ (u : Spot). (d : Edge) → filter (λ (e : Edge). eqb e.to u.location) fs ≡ get_or fs u.index d ∷ []) r L.0.2
 
 pub none_more : (n x : ℕ) (fs : List Edge) (o : Option Spot) → IsLeast n x fs o → o ≡ None → (l : ℕ) → fold_at n x fs l ≡ None
 none_more n x fs None L e = L
@@ -91,7 +91,7 @@ numbers_next k o p e f = e ∙ ap (λ z. z ++ k ∷ []) f ∙ ap numbers_below (
 pub edge_next : (left : List ℕ) (done : List Edge) (e g : Edge) (o p : List Edge) → g ≡ renumbered left e → p ≡ o ++ g ∷ [] → o ≡ map (renumbered left) done → p ≡ map (renumbered left) (done ++ e ∷ [])
 edge_next left done e g o p a b c = b ∙ ap₂ (λ y z. y ++ z ∷ []) c a ∙ sym (map-push (renumbered left) done e)
 
-pub ruleset folding_all = (begun, more, shaped_still, within_still, least_less, place_of, only_of, none_more)
+pub ruleset folding_all = (begun, more, shaped_still, within_still, least_less, index_of_spot, only_of, none_more)
 
 pub ruleset counting_below = (below_next, below_same, below_end)
 

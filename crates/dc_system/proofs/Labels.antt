@@ -14,7 +14,7 @@ use Rattle.dc_affine.specs.Atoms.{cond_is_below, dnf_fault}
 use Rattle.dc_affine.specs.Whole.{each, pass_step, statement_passes, all_pass}
 use Rattle.dc_affine.proofs.FormLaws.{and_both}
 use Rattle.dc_graph.specs.Labels.{Label, Arrow, arrow, branch, idle, tests}
-use Rattle.dc_graph.specs.Pieces.{Piece, sizes, first, placed, layer, piece, pieces, piece_in, exit_of, arrows_of}
+use Rattle.dc_graph.specs.Pieces.{Piece, sizes, first, all_arrows, layer, piece, pieces, piece_in, exit_of, arrows_of}
 use Rattle.dc_system.specs.Literals.{joined}
 use Rattle.dc_program.specs.Limits.{cond_operators}
 use Rattle.dc_system.proofs.Operators.{stmt_operators_step, stmt_operators, operators_of}
@@ -46,13 +46,13 @@ abbrev Few : ℕ → Type 0
 Few k = k ≤ 64
 
 abbrev Kept : ℕ → Stmt → Type 0
-Kept n S = statement_passes n S ≡ true → AllByRecursion Few (stmt_operators S) → (k l : ℕ) → Labelled n ((piece S).place k l)
+Kept n S = statement_passes n S ≡ true → AllByRecursion Few (stmt_operators S) → (k l : ℕ) → Labelled n ((piece S).arrows k l)
 
-labelled_block : (n : ℕ) (A : List Stmt) → AllByRecursion (Kept n) A → all_pass n A ≡ true → AllByRecursion Few (operators_of A) → (k l : ℕ) → Labelled n (placed (pieces A) k l)
+labelled_block : (n : ℕ) (A : List Stmt) → AllByRecursion (Kept n) A → all_pass n A ≡ true → AllByRecursion Few (operators_of A) → (k l : ℕ) → Labelled n (all_arrows (pieces A) k l)
 labelled_block n [] h b o k l = λ e i. elim i [ ]
 labelled_block n (S ∷ R) h b o k l =
     let p = and_both (statement_passes n S) (all_pass n R) b in
-    labelled-++ n ((piece S).place k (first (pieces R) (k + (piece S).size) l)) (placed (pieces R) (k + (piece S).size) l)
+    labelled-++ n ((piece S).arrows k (first (pieces R) (k + (piece S).size) l)) (all_arrows (pieces R) (k + (piece S).size) l)
     (h.0 p.0 (each_left Few (stmt_operators S) (operators_of R) o) k (first (pieces R) (k + (piece S).size) l))
     (labelled_block n R h.1 p.1 (each_right Few (stmt_operators S) (operators_of R) o) (k + (piece S).size) l)
 
@@ -60,18 +60,18 @@ joined_map : (A : List Stmt) → joined (map stmt_operators A) ≡ operators_of 
 joined_map [] = refl
 joined_map (S ∷ R) = ap (λ x. stmt_operators S ++ x) (joined_map R)
 
-inner_block : (n : ℕ) (A : List Stmt) → AllByRecursion (Kept n) A → each (map (statement_passes n) A) ≡ true → AllByRecursion Few (joined (map stmt_operators A)) → (k l : ℕ) → Labelled n (placed (pieces A) k l)
+inner_block : (n : ℕ) (A : List Stmt) → AllByRecursion (Kept n) A → each (map (statement_passes n) A) ≡ true → AllByRecursion Few (joined (map stmt_operators A)) → (k l : ℕ) → Labelled n (all_arrows (pieces A) k l)
 inner_block n A h b o k l = labelled_block n A h (sym (each_all n A) ∙ b) (subst (AllByRecursion Few) (joined_map A) o) k l
 
 two_blocks : (n : ℕ) (A B : List Stmt) → AllByRecursion (Kept n) A × AllByRecursion (Kept n) B → (each (map (statement_passes n) A) && each (map (statement_passes n) B)) ≡ true → AllByRecursion Few (joined (map stmt_operators A) ++ joined (map stmt_operators B)) → (k l : ℕ)
-    → Labelled n (placed (pieces A) (k + 1) l ++ placed (pieces B) (k + 1 + sizes (pieces A)) l)
+    → Labelled n (all_arrows (pieces A) (k + 1) l ++ all_arrows (pieces B) (k + 1 + sizes (pieces A)) l)
 two_blocks n A B h b o k l =
     let p = and_both (each (map (statement_passes n) A)) (each (map (statement_passes n) B)) b in
-    labelled-++ n (placed (pieces A) (k + 1) l) (placed (pieces B) (k + 1 + sizes (pieces A)) l)
+    labelled-++ n (all_arrows (pieces A) (k + 1) l) (all_arrows (pieces B) (k + 1 + sizes (pieces A)) l)
     (inner_block n A h.0 p.0 (each_left Few (joined (map stmt_operators A)) (joined (map stmt_operators B)) o) (k + 1) l)
     (inner_block n B h.1 p.1 (each_right Few (joined (map stmt_operators A)) (joined (map stmt_operators B)) o) (k + 1 + sizes (pieces A)) l)
 
-at_layer : (n : ℕ) (L : Stmt-F Stmt) → EachStmt (Kept n) L → Parts n (map-Stmt Stmt Bool (statement_passes n) L) → AllByRecursion Few (stmt_operators_step (map-Stmt Stmt (List ℕ) stmt_operators L)) → (k l : ℕ) → Labelled n ((piece_in L).place k l)
+at_layer : (n : ℕ) (L : Stmt-F Stmt) → EachStmt (Kept n) L → Parts n (map-Stmt Stmt Bool (statement_passes n) L) → AllByRecursion Few (stmt_operators_step (map-Stmt Stmt (List ℕ) stmt_operators L)) → (k l : ℕ) → Labelled n ((piece_in L).arrows k l)
 at_layer n Skip h p o k l = labelled_one n k l _ tt
 at_layer n (Assign x e) h p o k l = labelled_one n k l _ (record { below = (and_both (ltb x n) (is_below n e) p.below).1; faultless = p.faultless })
 at_layer n (AnyOf x) h p o k l = labelled_one n k l _ tt
@@ -84,17 +84,17 @@ at_layer n (Tick e) h p o k l = labelled_one n k l _ (record { below = p.below; 
 at_layer n (Assume c) h p o k l = labelled_branch n k l (facts_of c false) (cases_pass n c false p.below p.faultless o.0)
 at_layer n (If c A B) h p o k l =
     let f = none_parts (dnf_fault n c false) (dnf_fault n c true) p.faultless in
-    labelled-++ n (branch k (first (pieces A) (k + 1) l) (facts_of c false) ++ branch k (first (pieces B) (k + 1 + sizes (pieces A)) l) (facts_of c true)) (placed (pieces A) (k + 1) l ++ placed (pieces B) (k + 1 + sizes (pieces A)) l)
+    labelled-++ n (branch k (first (pieces A) (k + 1) l) (facts_of c false) ++ branch k (first (pieces B) (k + 1 + sizes (pieces A)) l) (facts_of c true)) (all_arrows (pieces A) (k + 1) l ++ all_arrows (pieces B) (k + 1 + sizes (pieces A)) l)
     (choice n k (first (pieces A) (k + 1) l) (first (pieces B) (k + 1 + sizes (pieces A)) l) c p.below f.0 f.1 o.0) (two_blocks n A B h p.inside o.1 k l)
 at_layer n (IfAny A B) h p o k l =
-    labelled-++ n (arrow k (first (pieces A) (k + 1) l) idle ∷ arrow k (first (pieces B) (k + 1 + sizes (pieces A)) l) idle ∷ []) (placed (pieces A) (k + 1) l ++ placed (pieces B) (k + 1 + sizes (pieces A)) l)
+    labelled-++ n (arrow k (first (pieces A) (k + 1) l) idle ∷ arrow k (first (pieces B) (k + 1 + sizes (pieces A)) l) idle ∷ []) (all_arrows (pieces A) (k + 1) l ++ all_arrows (pieces B) (k + 1 + sizes (pieces A)) l)
     (labelled_two n k (first (pieces A) (k + 1) l) (first (pieces B) (k + 1 + sizes (pieces A)) l)) (two_blocks n A B h p.inside o k l)
 at_layer n (While c A) h p o k l =
     let f = none_parts (dnf_fault n c false) (dnf_fault n c true) p.faultless in
-    labelled-++ n (branch k (first (pieces A) (k + 1) k) (facts_of c false) ++ branch k l (facts_of c true)) (placed (pieces A) (k + 1) k)
+    labelled-++ n (branch k (first (pieces A) (k + 1) k) (facts_of c false) ++ branch k l (facts_of c true)) (all_arrows (pieces A) (k + 1) k)
     (choice n k (first (pieces A) (k + 1) k) l c p.below f.0 f.1 o.0) (inner_block n A h p.inside o.1 (k + 1) k)
 at_layer n (WhileAny A) h p o k l =
-    labelled-++ n (arrow k (first (pieces A) (k + 1) k) idle ∷ arrow k l idle ∷ []) (placed (pieces A) (k + 1) k)
+    labelled-++ n (arrow k (first (pieces A) (k + 1) k) idle ∷ arrow k l idle ∷ []) (all_arrows (pieces A) (k + 1) k)
     (labelled_two n k (first (pieces A) (k + 1) k) l) (inner_block n A h p.inside o (k + 1) k)
 
 kept : (n : ℕ) (S : Stmt) → Kept n S
@@ -102,7 +102,7 @@ kept n S = Stmt-induction (Kept n) (λ L h b o k l.
     let e : piece (roll-Stmt L) ≡ piece_in L = fold-roll-Stmt Piece layer L in
     let t : statement_passes n (roll-Stmt L) ≡ pass_step n (map-Stmt Stmt Bool (statement_passes n) L) = fold-roll-Stmt Bool (pass_step n) L in
     let u : stmt_operators (roll-Stmt L) ≡ stmt_operators_step (map-Stmt Stmt (List ℕ) stmt_operators L) = fold-roll-Stmt (List ℕ) stmt_operators_step L in
-    subst (λ (p : Piece). Labelled n (p.place k l)) (sym e) (at_layer n L h (parts n (map-Stmt Stmt Bool (statement_passes n) L) (sym t ∙ b)) (subst (AllByRecursion Few) u o) k l)) S
+    subst (λ (p : Piece). Labelled n (p.arrows k l)) (sym e) (at_layer n L h (parts n (map-Stmt Stmt Bool (statement_passes n) L) (sym t ∙ b)) (subst (AllByRecursion Few) u o) k l)) S
 
 all_kept : (n : ℕ) (A : List Stmt) → AllByRecursion (Kept n) A
 all_kept n [] = tt

@@ -6,7 +6,7 @@ pub mod Counts
 pub mod Rising
 pub mod Numbers
 pub mod Differences
-pub mod Places
+pub mod Pushed
 pub mod Passes
 pub mod Simple
 pub mod Arms

@@ -116,7 +116,7 @@ passes-While n S c A q h =
 pub passes-WhileAny : (n : ℕ) (S : Stmt) (A : List Stmt) → S ≡ v.WhileAny A → statement_passes n S ≡ true → all_pass n A ≡ true
 passes-WhileAny n S A q h = let r = parts_of n S (WhileAny A) (ap out-Stmt q ∙ v.outs-WhileAny A) h in sym (each_all n A) ∙ r.inside
 
--- the statement at a place of a body, and those behind it
+-- the statement at an index of a body, and those behind it
 pub passes_at : (n i : ℕ) (body : List Stmt) (d : Stmt) → i < length body → d ≡ get_or body i d → all_pass n (drop i body) ≡ true → (statement_passes n d ≡ true) × (all_pass n (drop (i + 1) body) ≡ true)
 passes_at n i body d h e k =
     let p = and_both (statement_passes n (get_or body i d)) (all_pass n (drop (i + 1) body)) (sym (ap (all_pass n) (drop_more body i d h)) ∙ k) in

@@ -19,7 +19,7 @@ with_same v x xs h = rw (le-ltb v x (omega arith), eq-eqb v x (sym h)) refl
 with_smaller : (v x : ℕ) (xs : List ℕ) → x < v → with_number v (x ∷ xs) ≡ x ∷ with_number v xs
 with_smaller v x xs h = rw (le-ltb v x (omega arith), ne_eqb v x (λ e. omega arith)) refl
 
--- ---- the search for the place
+-- ---- the search for the index
 pub passes_smaller : (v i x : ℕ) (xs : List ℕ) → i < length xs → x ≡ get_or xs i 0 → x < v → with_number v xs ≡ take i xs ++ with_number v (drop i xs) → with_number v xs ≡ take (i + 1) xs ++ with_number v (drop (i + 1) xs)
 passes_smaller v i x xs h e l k =
     let d : drop i xs ≡ get_or xs i 0 ∷ drop (i + 1) xs = drop_more xs i 0 h in

@@ -29,7 +29,7 @@ use Rattle.dc_program.specs.Programs.{IsProgram}
 use Rattle.dc_system.proofs.Accepted.{accepted}
 use Rattle.dc_system.specs.Shapes.{IsForm, TermsSkip, Skips, AtomSkips, IsEdge, IsWithin, IsWellFormed}
 use Rattle.dc_system.proofs.Wider.{widened, wide_last, form_wider, gap_wider, wide_coef_last}
-use Rattle.dc_system.proofs.Places.{length-variables}
+use Rattle.dc_system.proofs.Pushed.{length-variables}
 use Rattle.dc_system.proofs.Weights.{form_polynomial}
 use Rattle.dc_system.proofs.Bounded.{wide_narrow}
 use Rattle.dc_affine.proofs.FactAtoms.{gap_padded, all_within}

@@ -24,7 +24,7 @@ joint n l (e ∷ f ∷ fs) gs = None
 abbrev pub fold_at : ℕ → ℕ → List Edge → ℕ → Option Edge
 fold_at n x es l = if eqb l 0 || eqb l x then None else joint n l (into l es) (out_of l es)
 
--- the composed edge in the place of the edge in, the edge out taken away
+-- the composed edge where the edge in stands, the edge out taken away
 abbrev pub folded : ℕ → Edge → List Edge → List Edge
 folded l c es =
     filter (λ (e : Edge). not (eqb e.from l)) (map (λ (e : Edge). if eqb e.to l then c else e) es)

@@ -7,16 +7,16 @@ use Rattle.dc_system.specs.declared.folding.Spot.{Spot}
 use Rattle.dc_system.specs.Shapes.{IsEdge}
 use Rattle.dc_system.specs.Folded.{into, fold_at}
 
--- the place of the one item that passes, where there is one
+-- the index of the one item that passes, where there is one
 abbrev pub IsOnly : List Edge → List Edge → Option ℕ → Type 0
 IsOnly passing es None = (e : Edge) → ¬ (passing ≡ e ∷ [])
 IsOnly passing es (Some k) = (k < length es) × ((d : Edge) → passing ≡ get_or es k d ∷ [])
 
--- a foldable location, with the place of the edge into it and the composed edge
+-- a foldable location, with the index of the edge into it and the composed edge
 abbrev pub IsSpot : ℕ → ℕ → List Edge → Spot → Type 0
 IsSpot n x es s =
-    (fold_at n x es s.location ≡ Some s.edge) × (s.place < length es)
-    × ((d : Edge) → into s.location es ≡ get_or es s.place d ∷ [])
+    (fold_at n x es s.location ≡ Some s.edge) × (s.index < length es)
+    × ((d : Edge) → into s.location es ≡ get_or es s.index d ∷ [])
 
 abbrev pub IsSpotAt : ℕ → ℕ → List Edge → ℕ → Option Spot → Type 0
 IsSpotAt n x es l None = fold_at n x es l ≡ None

@@ -50,11 +50,11 @@ fn only_out_of(edges: &[Edge], location: usize) -> Option<usize>
     found
 }
 
-/// A foldable location, the place of the edge into it, and the edge that it is folded into.
+/// A foldable location, the index of the edge into it, and the edge that it is folded into.
 #[derive(Drop)]
 pub(crate) struct Spot {
     pub location: usize,
-    pub place: usize,
+    pub index: usize,
     pub edge: Edge,
 }
 
@@ -74,13 +74,13 @@ fn spot_at(
     if location == 0 || location == exit {
         return Ok(None);
     }
-    let Some(place) = only_into(edges, location) else {
+    let Some(index) = only_into(edges, location) else {
         return Ok(None);
     };
     let Some(leaving) = only_out_of(edges, location) else {
         return Ok(None);
     };
-    let first = &edges[place];
+    let first = &edges[index];
     let second = &edges[leaving];
     if first.from == location || second.to == location {
         return Ok(None);
@@ -90,7 +90,7 @@ fn spot_at(
     };
     Ok(Some(Spot {
         location,
-        place,
+        index,
         edge,
     }))
 }
@@ -132,22 +132,22 @@ fn keep_others(left: &mut Vec<usize>, location: usize)
     left.retain(|k| *k != location);
 }
 
-// Puts the composed edge in the place of the edge in, takes the edge out away, and the location
+// Puts the composed edge where the edge in stands, takes the edge out away, and the location
 // with it.
 #[tactic(auto, using(crate::proofs::Spotting::folding_out))]
 fn fold_out(edges: &mut Vec<Edge>, left: &mut Vec<usize>, spot: Spot)
-    requires place { spot.place < length edges.old.items }
+    requires index { spot.index < length edges.old.items }
     requires only { (d : EdgeRecord)
-        → into spot.location edges.old.items ≡ get_or edges.old.items spot.place d ∷ [] }
+        → into spot.location edges.old.items ≡ get_or edges.old.items spot.index d ∷ [] }
     ensures edges { edges.new.items ≡ folded spot.location spot.edge edges.old.items }
     ensures left { left.new.items ≡ without spot.location left.old.items }
 {
     let Spot {
         location,
-        place,
+        index,
         edge,
     } = spot;
-    edges[place] = edge;
+    edges[index] = edge;
     keep_edges(edges, location);
     keep_others(left, location);
 }
@@ -305,7 +305,7 @@ fn folded_system(alloc: Global, s: &System) -> Result<System, AllocError>
 ///
 /// A location is foldable where it is neither the entry nor the exit, has exactly one edge in and
 /// exactly one edge out, neither of which goes from it to itself, and the two have a composed edge
-/// ([`compose`]). That edge then takes the place of the edge in, and the edge out is taken away.
+/// ([`compose`]). That edge then stands where the edge in stood, and the edge out is taken away.
 /// The least foldable location is folded again and again until there is none; then the locations
 /// that are left are numbered anew in their order, and the edges keep their order.
 ///

@@ -10,8 +10,8 @@ mod folding;
 mod forms;
 mod guards;
 pub mod laws;
+mod laying;
 mod literals;
-mod place;
 mod procedure;
 mod rows;
 

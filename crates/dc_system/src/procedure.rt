@@ -10,8 +10,8 @@ ghost use Rattle.dc_system.specs.Laws.{Through};
 
 use crate::count::count_all;
 use crate::edges::{System, SystemFault};
+use crate::laying::lay_all;
 use crate::literals;
-use crate::place::place_all;
 use dc_syntax::{Count, Proc};
 use sqlite_items::Items;
 use std::alloc::{AllocError, Global};
@@ -38,7 +38,7 @@ fn build_system(alloc: Global, p: &Proc) -> Result<System, SystemFault>
     }
     let exit = statements as usize;
     let mut edges = Vec::new(alloc);
-    place_all(alloc, &mut edges, vars, body, 0, exit)?;
+    lay_all(alloc, &mut edges, vars, body, 0, exit)?;
     if edges.len() > MOST_EDGES {
         return Err(SystemFault::TooLarge {
             what: Count::Edges,

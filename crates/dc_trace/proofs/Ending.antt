@@ -28,12 +28,12 @@ at_turn turns n (on y) = Err (T.Unfinished (suc n))
 abbrev answered : (fits : ℤ → Bool) → ℕ → Config → ℕ → Config → Result ℤ TraceFault
 answered fits turns x n y = elim (turn fits y) [ None ↦ at_end (length x.choices) y.choices y.cost | Some t ↦ (elim (eqb n turns) [ true ↦ Err (T.Unfinished (suc n)) | false ↦ at_turn turns n t ]) ]
 
--- a last place, and what is answered there
+-- a last state, and what is answered there
 record Found (fits : ℤ → Bool) (turns : ℕ) (x : Config) (r : Result ℤ TraceFault) : Type 0 where
   count : ℕ
-  place : Config
-  last : Last fits turns x count place
-  answer : r ≡ answered fits turns x count place
+  end : Config
+  last : Last fits turns x count end
+  answer : r ≡ answered fits turns x count end
 
 module _ (fits : ℤ → Bool) (turns : ℕ) (x : Config) where
   none_not : (y w : Config) → turn fits y ≡ None → ¬ (turn fits y ≡ Some (on w))
@@ -51,7 +51,7 @@ module _ (fits : ℤ → Bool) (turns : ℕ) (x : Config) where
   done_turn : (y : Config) → y.todo ≡ [] → turn fits y ≡ None
   done_turn y e = ap (λ A. turn_in fits A y.state y.cost y.choices) e
 
-  -- ---- each end is answered at a last place
+  -- ---- each end is answered at a last state
   at_none : (n : ℕ) (y : Config) → turn fits y ≡ None → answered fits turns x n y ≡ at_end (length x.choices) y.choices y.cost
   at_none n y e = ap (λ (o : Option Turn). elim o as (λ _. Result ℤ TraceFault) [ None ↦ at_end (length x.choices) y.choices y.cost | Some t ↦ (elim (eqb n turns) [ true ↦ Err (T.Unfinished (suc n)) | false ↦ at_turn turns n t ]) ]) e
 
@@ -68,7 +68,7 @@ module _ (fits : ℤ → Bool) (turns : ℕ) (x : Config) where
   found_pays : (c : ℤ) → Pays fits turns x c → Found fits turns x (Ok c)
   found_pays c h = record {
     count = h.1.count;
-    place = h.0;
+    end = h.0;
     last = finish_last h.0 h.1;
     answer = paid_end (length x.choices) h.0.choices h.0.cost c h.2 h.3 ∙ sym (at_none h.1.count h.0 (done_turn h.0 h.1.done));
   }
@@ -80,7 +80,7 @@ module _ (fits : ℤ → Bool) (turns : ℕ) (x : Config) where
   found_over : (used : ℕ) → LeavesOver fits turns x used → Found fits turns x (Err (T.LeftOver used))
   found_over used h = record {
     count = h.1.count;
-    place = h.0;
+    end = h.0;
     last = finish_last h.0 h.1;
     answer = over_end (length x.choices) used h.0.choices h.0.cost h.2 h.3 ∙ sym (at_none h.1.count h.0 (done_turn h.0 h.1.done));
   }
@@ -88,7 +88,7 @@ module _ (fits : ℤ → Bool) (turns : ℕ) (x : Config) where
   found_stop : (why : Why) (k : ℕ) → Stops fits turns x why k → Found fits turns x (Err (fault why k))
   found_stop why k h = record {
     count = h.count;
-    place = h.at;
+    end = h.at;
     last = record { within = (let l = h.within in omega arith); leads = h.leads; halted = λ l w. stop_halts h.at w why h.stops };
     answer = ap (λ n. Err (fault why n)) h.number ∙ sym (at_some h.count h.at (stop why) false h.stops (ne_eqb h.count turns (λ e. let l = h.within in omega arith)));
   }
@@ -100,7 +100,7 @@ module _ (fits : ℤ → Bool) (turns : ℕ) (x : Config) where
       by None e = absurd (h.left (no_turn fits h.at.todo h.at.state h.at.cost h.at.choices e))
       by (Some t) e = record {
         count = turns;
-        place = h.at;
+        end = h.at;
         last = record { within = omega arith; leads = h.leads; halted = λ l w. absurd (omega arith) };
         answer = ap (λ n. Err (T.Unfinished n)) h.number ∙ sym (at_some turns h.at t true e (eq-eqb turns turns refl));
       }
@@ -117,7 +117,7 @@ module _ (fits : ℤ → Bool) (turns : ℕ) (x : Config) where
 
   one_found : (r q : Result ℤ TraceFault) → Found fits turns x r → Found fits turns x q → q ≡ r
   one_found r q a b =
-      b.answer ∙ ap₂ (λ n y. answered fits turns x n y) (one_count fits turns b.count a.count x b.place a.place b.last a.last) (one_last fits turns b.count a.count x b.place a.place b.last a.last) ∙ sym a.answer
+      b.answer ∙ ap₂ (λ n y. answered fits turns x n y) (one_count fits turns b.count a.count x b.end a.end b.last a.last) (one_last fits turns b.count a.count x b.end a.end b.last a.last) ∙ sym a.answer
 
   one_end : (r q : Result ℤ TraceFault) → Ends fits turns x r → Ends fits turns x q → q ≡ r
   one_end r q a b = one_found r q (found r a) (found q b)

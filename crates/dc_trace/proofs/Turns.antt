@@ -1,4 +1,4 @@
--- Turns lead to one place.
+-- Turns lead to one state.
 use Rattle.std.specs.Prelude.{◌≡◌, ◌⊎◌, ℕ, zero, suc, ◌<◌, ◌≤◌, eqb, List, [], ◌∷◌, length, ℤ, pos, negsuc, ◌&&◌, slice_set, ◌++◌, ◌+ℤ◌, if◌then◌else◌, int_le, Bool, true, false, Some, None, refl}
 use Rattle.std.proofs.Common.{sym, ◌∙◌, ap, subst, arith, inl, inr}
 use Rattle.std.proofs.lemmas.Bool.{eqb-true, eqb-false}
@@ -39,7 +39,7 @@ module _ (fits : ℤ → Bool) where
   some_turn [] s c zs t e q = cc
   some_turn (S ∷ R) s c zs t e q = cc
 
-  -- ---- the same number of turns leads to one place
+  -- ---- the same number of turns leads to one state
   pub leads_one : (n : ℕ) (x y z : Config) → Leads fits n x y → Leads fits n x z → y ≡ z
   leads_one zero x y z a b = sym a ∙ b
   leads_one (suc n) x y z a b = some_same y z (sym a.2 ∙ ap (turn fits) (leads_one n x a.0 b.0 a.1 b.1) ∙ b.2)

@@ -1,9 +1,9 @@
 use Rattle.std.proofs.Common.{◌≡◌}
-use Rattle.dc_trace.specs.Places.{todo_at}
+use Rattle.dc_trace.specs.Spots.{todo_at}
 use Rattle.dc_trace.proofs.walk.take.Given as goal
 
-abbrev pub invariant-places : goal.invariant-places
-invariant-places l = todo_at l.places.items ≡ todo_at l.fn.places.items
+abbrev pub invariant-spots : goal.invariant-spots
+invariant-spots l = todo_at l.spots.items ≡ todo_at l.fn.spots.items
 
-abbrev pub decreases-places : goal.decreases-places
-decreases-places l = goal.left-places l
+abbrev pub decreases-spots : goal.decreases-spots
+decreases-spots l = goal.left-spots l

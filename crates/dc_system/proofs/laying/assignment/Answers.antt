@@ -1,6 +1,6 @@
 use Rattle.std.proofs.Common.{◌+◌, arith, ap, length}
-use Rattle.dc_system.proofs.Places.{length-variables}
-use Rattle.dc_system.proofs.place.assignment.Goals as goal
+use Rattle.dc_system.proofs.Pushed.{length-variables}
+use Rattle.dc_system.proofs.laying.assignment.Goals as goal
 
 pub index_mut-requires : goal.index_mut-requires
 index_mut-requires c =

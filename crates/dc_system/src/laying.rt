@@ -2,7 +2,7 @@
 ghost use Rattle.std.specs.Prelude.{ℕ, ◌≡◌, ◌≤◌, ◌<◌, ◌+◌, ◌++◌, [], ◌∷◌, map, IfOk, OnOk, true};
 ghost use Rattle.dc_affine.specs.Atoms.{cases_of};
 ghost use Rattle.dc_affine.specs.Whole.{all_pass, statement_passes};
-ghost use Rattle.dc_graph.specs.Pieces.{piece, pieces, placed, sizes};
+ghost use Rattle.dc_graph.specs.Pieces.{piece, pieces, all_arrows, sizes};
 ghost use Rattle.dc_system.specs.Simple.{IsSimple};
 ghost use Rattle.dc_system.specs.Edges.{cost_edge, edge_of, set_edge, test_edge, test_edges, unchanged};
 
@@ -50,7 +50,7 @@ fn test(
 }
 
 // One edge that only tests for each guard.
-#[tactic(auto, using(crate::proofs::Places::branching))]
+#[tactic(auto, using(crate::proofs::Pushed::branching))]
 fn branch(
     alloc: Global,
     out: &mut Vec<Edge>,
@@ -129,7 +129,7 @@ fn simple_edge(
     requires few { vars ≤ 10 }
     requires passes { statement_passes vars statement.now ≡ true }
     requires simple { IsSimple statement.now }
-    ensures { IfOk result (λ e. e ∷ [] ≡ map (edge_of vars) ((piece statement.now).place from to)) }
+    ensures { IfOk result (λ e. e ∷ [] ≡ map (edge_of vars) ((piece statement.now).arrows from to)) }
 {
     let none = Vec::new(alloc);
     match statement {
@@ -155,8 +155,8 @@ fn simple_edge(
 }
 
 // Pushes the edges of a statement that stands at a number, where the program goes on at another.
-#[cycle(places)]
-fn place(
+#[cycle(laying)]
+fn lay(
     alloc: Global,
     out: &mut Vec<Edge>,
     vars: usize,
@@ -169,7 +169,7 @@ fn place(
     requires within { at + (piece statement.now).size ≤ 128 }
     ensures { OnOk result
         (out.new.items ≡ out.old.items
-        ++ map (edge_of vars) ((piece statement.now).place at next)) }
+        ++ map (edge_of vars) ((piece statement.now).arrows at next)) }
 {
     match statement {
         Stmt::Assume(c) => branch(alloc, out, vars, at, next, cases(alloc, c, false, vars)?),
@@ -179,8 +179,8 @@ fn place(
             let to_no = first(no.as_slice(), second, next);
             branch(alloc, out, vars, at, to_yes, cases(alloc, c, false, vars)?)?;
             branch(alloc, out, vars, at, to_no, cases(alloc, c, true, vars)?)?;
-            place_all(alloc, out, vars, yes.as_slice(), at + 1, next)?;
-            place_all(alloc, out, vars, no.as_slice(), second, next)
+            lay_all(alloc, out, vars, yes.as_slice(), at + 1, next)?;
+            lay_all(alloc, out, vars, no.as_slice(), second, next)
         }
         Stmt::IfAny(yes, no) => {
             let second = at + 1 + count_all(yes.as_slice()) as usize;
@@ -188,20 +188,20 @@ fn place(
             let to_no = first(no.as_slice(), second, next);
             out.push(test(alloc, vars, at, to_yes, Vec::new(alloc))?)?;
             out.push(test(alloc, vars, at, to_no, Vec::new(alloc))?)?;
-            place_all(alloc, out, vars, yes.as_slice(), at + 1, next)?;
-            place_all(alloc, out, vars, no.as_slice(), second, next)
+            lay_all(alloc, out, vars, yes.as_slice(), at + 1, next)?;
+            lay_all(alloc, out, vars, no.as_slice(), second, next)
         }
         Stmt::While(c, body) => {
             let to_body = first(body.as_slice(), at + 1, at);
             branch(alloc, out, vars, at, to_body, cases(alloc, c, false, vars)?)?;
             branch(alloc, out, vars, at, next, cases(alloc, c, true, vars)?)?;
-            place_all(alloc, out, vars, body.as_slice(), at + 1, at)
+            lay_all(alloc, out, vars, body.as_slice(), at + 1, at)
         }
         Stmt::WhileAny(turn) => {
             let to_body = first(turn.as_slice(), at + 1, at);
             out.push(test(alloc, vars, at, to_body, Vec::new(alloc))?)?;
             out.push(test(alloc, vars, at, next, Vec::new(alloc))?)?;
-            place_all(alloc, out, vars, turn.as_slice(), at + 1, at)
+            lay_all(alloc, out, vars, turn.as_slice(), at + 1, at)
         }
         _ => {
             out.push(simple_edge(alloc, vars, statement, at, next)?)?;
@@ -211,8 +211,8 @@ fn place(
 }
 
 // Pushes the edges of a block that stands at a number, where the program goes on at another.
-#[cycle(places)]
-pub(crate) fn place_all(
+#[cycle(laying)]
+pub(crate) fn lay_all(
     alloc: Global,
     out: &mut Vec<Edge>,
     vars: usize,
@@ -224,14 +224,14 @@ pub(crate) fn place_all(
     requires passes { all_pass vars body.now ≡ true }
     requires within { at + sizes (pieces body.now) ≤ 128 }
     ensures { OnOk result
-        (out.new.items ≡ out.old.items ++ map (edge_of vars) (placed (pieces body.now) at next)) }
+        (out.new.items ≡ out.old.items ++ map (edge_of vars) (all_arrows (pieces body.now) at next)) }
 {
     let mut number = at;
     for i in 0..body.len() {
         let statement = &body[i];
         let after = number + count(statement) as usize;
         let target = if i + 1 < body.len() { after } else { next };
-        place(alloc, out, vars, statement, number, target)?;
+        lay(alloc, out, vars, statement, number, target)?;
         number = after;
     }
     Ok(())
