@@ -3,8 +3,7 @@
 #![tactic(auto, using(crate::proofs::Sizes::sizes))]
 
 ghost use Rattle.std.specs.Prelude.{◌≡◌, ◌+◌, ◌<◌, ◌^◌, OnOk};
-ghost use Rattle.dc_lp.specs.Problems.{IsWellFormed, columns};
-ghost use Rattle.dc_lp.specs.Verdicts.{columns as columns_of};
+ghost use Rattle.dc_lp.specs.Problems.{IsWellFormed, columns as columns_of};
 ghost use Rattle.dc_sparse.specs.Meanings.{cross_meaning};
 ghost use Rattle.dc_tableau_trials.specs.Sizes.{IsOver, IsReadyAt};
 
