@@ -1,7 +1,7 @@
 -- From where the reader stops to what stands first in a text.
 use Rattle.std.proofs.Common.{◌≡◌, ℕ, zero, suc, ◌+◌, ◌-◌, ◌<◌, ◌≤◌, List, [], ◌∷◌, length, get_or, refl, ap, sym, ◌∙◌, subst, arith, length-append, length-take, Some, None}
 use Rattle.std.specs.declared.option.Option.{Option}
-use Rattle.std.proofs.lemmas.List.{take-take, take_all}
+use Rattle.std.proofs.lemmas.List.{take_all}
 use Rattle.dc_tokens.specs.declared.token.Token.{Token}
 use Rattle.dc_grammar.specs.Grammar.{ref, Viable}
 use Rattle.dc_grammar.specs.Language.{Name, language}

@@ -5,7 +5,6 @@ use Rattle.dc_grammar.specs.Grammar.{Tree}
 use Rattle.dc_grammar.specs.Language.{Name, source, cond}
 use Rattle.dc_syntax.specs.declared.tree.Proc.{Proc}
 use Rattle.dc_syntax.specs.Params.{params_of, HaveSameParams}
-use Rattle.dc_affine.specs.declared.atom.Atom.{Atom}
 use Rattle.dc_parse.specs.declared.fault.Fault.{Fault}
 use Rattle.dc_parse.specs.declared.fault.Kind.{Kind}
 use Rattle.dc_parse.specs.declared.fault.Kind.TheVariants as k
@@ -13,7 +12,7 @@ use Rattle.dc_parse.specs.Outcomes.{Outcome, says, refuses, IsOutcome}
 use Rattle.dc_parse.specs.Judges.{judge_source, judge_condition}
 use Rattle.dc_parse.specs.Answers.{SourceOutcome, ConditionOutcome, IsRefusal}
 use Rattle.dc_parse.proofs.Judged.{has_one_outcome}
-use Rattle.dc_sample_laws.specs.Procedures.{sample_proc, sample_condition, sample_cases}
+use Rattle.dc_sample_laws.specs.Procedures.{sample_condition, sample_cases}
 use Rattle.dc_sample_laws.specs.Laws.{new_source, old_source, new_proc, old_proc, HasNoFault}
 use Rattle.dc_sample_laws.proofs.Pairs.{pair_read}
 use Rattle.dc_sample_laws.proofs.Condition.{condition_read}
@@ -77,6 +76,3 @@ module _ (seed count : ℕ) (l : count ≤ 8) where
             not_refused cond (judge_condition (params_of new) sample_condition) sample_condition sample_cases condition_read f
             (subst (λ r. ConditionOutcome (params_of r) sample_condition (refuses f)) (only_new p h) o);
       }
-
-pub only_cases : (costs : List ℕ) (cases : List (List Atom)) → ConditionOutcome (params_of (sample_proc costs)) sample_condition (says cases) → cases ≡ sample_cases
-only_cases costs cases h = says_one cond (judge_condition (params_of (sample_proc costs)) sample_condition) sample_condition cases sample_cases h condition_read
