@@ -1,9 +1,7 @@
--- What a finished run of a procedure costs, and which inputs are allowed.
-use Rattle.std.specs.Prelude.{◌≡◌, ℕ, ◌-◌, ◌++◌, length, replicate, ℤ, pos, true, Some, None}
-use Rattle.std.specs.declared.option.Option.{Option}
+-- What a finished run of a procedure costs.
+use Rattle.std.specs.Prelude.{◌≡◌, ℕ, ◌-◌, ◌++◌, length, replicate, ℤ, pos}
 use Rattle.dc_syntax.specs.declared.tree.Proc.{Proc}
-use Rattle.dc_syntax.specs.declared.tree.Cond.{Cond}
-use Rattle.dc_syntax.specs.Value.{State, truth}
+use Rattle.dc_syntax.specs.Value.{State}
 use Rattle.dc_syntax.specs.Run.{Run}
 
 -- the values v of so many parameters, followed by 0 for each other of n variables
@@ -17,8 +15,3 @@ start_of p v = start_with (length p.names) p.params v
 -- v has one number per parameter, and the body can run from its start to some state t at cost c
 abbrev pub Costs : Proc → State → ℤ → Type 0
 Costs p v c = (length v ≡ p.params) × (t : State) × Run p.body (start_of p v) c t
-
--- an input is allowed where the condition is true of it; without a condition each one is
-abbrev pub Allowed : Option Cond → State → Type 0
-Allowed (Some b) v = truth b v ≡ true
-Allowed None v = Unit {0}
