@@ -2,7 +2,7 @@
 ghost use Rattle.std.specs.Prelude.{ℕ, ℤ, List, ◌≡◌, ◌≤◌, ◌++◌, ◌∷◌, unsigned_abs, IfOk, MatchOption};
 ghost use Rattle.std.specs.Fmt.{signed_decimal};
 ghost use Rattle.dc_affine.specs.declared.atom.Atom.{Atom as Fact};
-ghost use Rattle.dc_affine.specs.Atoms.{IsAtom};
+ghost use Rattle.dc_affine.specs.Atoms.{IsAtom, most_constant};
 ghost use Rattle.dc_cert.specs.declared.sparse.Sparse.{Sparse as Vector};
 ghost use Rattle.dc_cert.specs.declared.sparse.Item.{Item as Entry};
 ghost use Rattle.dc_cert.specs.Vectors.{IsItem, IsVector};
@@ -18,9 +18,9 @@ use sqlite_items::Items;
 use std::alloc::{AllocError, Global};
 
 // The greatest sizes of the numbers of an atom, and how many stand behind the constant.
-const MOST_CONSTANT: u64 = 2147483648;
+const MOST_CONSTANT: u64 = dc_affine::MOST_CONSTANT as u64;
 
-const MOST_COEFFICIENT: u64 = 2147483647;
+const MOST_COEFFICIENT: u64 = dc_affine::MOST_COEFFICIENT as u64;
 
 const MOST_COEFFICIENTS: usize = 10;
 
@@ -79,9 +79,9 @@ fn next_item(text: &[u8]) -> Option<(Item, &[u8])>
 // The first number of a text, with the space in front, and the text behind it.
 fn next_number(text: &[u8]) -> Option<(i64, &[u8])>
     ensures { MatchOption result
-        ((z : ℤ) (r : List ℕ) → unsigned_abs z ≤ 2147483648 → Starts 32 r
+        ((z : ℤ) (r : List ℕ) → unsigned_abs z ≤ most_constant → Starts 32 r
         → ¬ (32 ∷ (signed_decimal z ++ r) ≡ text.now))
-        (λ p. (unsigned_abs p.0 ≤ 2147483648) × Starts 32 p.1.now
+        (λ p. (unsigned_abs p.0 ≤ most_constant) × Starts 32 p.1.now
         × (32 ∷ (signed_decimal p.0 ++ p.1.now) ≡ text.now)) }
 {
     let Some((next, more)) = next_field(text) else {

@@ -2,7 +2,7 @@
 ghost use Rattle.std.specs.Prelude.{◌≡◌, ◌≤◌, ◌*◌, ◌+◌, ◌+ℤ◌, true, length, unsigned_abs, IfOk};
 ghost use Rattle.std.specs.List.{list_all};
 ghost use Rattle.dc_poly.specs.NormalForm.{most};
-ghost use Rattle.dc_affine.specs.Atoms.{IsAtom};
+ghost use Rattle.dc_affine.specs.Atoms.{IsAtom, most_constant};
 ghost use Rattle.dc_system.specs.After.{atom_after as moved_of, is_affine_after};
 ghost use Rattle.dc_system.specs.Shapes.{IsEdge as IsEdgeOver};
 ghost use Rattle.dc_cert.specs.Ranges.{AreAtoms, AreKeeps};
@@ -104,7 +104,7 @@ fn case_keep_failure(
 
 /// The constant of an atom, and with it that of its row after an edge.
 fn sum(constant: &i64, more: &i128) -> i128
-    requires constant { unsigned_abs constant.now ≤ 2147483648 }
+    requires constant { unsigned_abs constant.now ≤ most_constant }
     requires more { unsigned_abs more.now ≤ 10 * (most * most) }
     ensures value { result ≡ constant.now +ℤ more.now }
 {

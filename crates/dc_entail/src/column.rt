@@ -1,6 +1,6 @@
 //! The columns of the two problems.
 ghost use Rattle.std.specs.Prelude.{◌≡◌, ◌+◌, ◌≤◌, IfOk, OnOk, pos, replicate, unsigned_abs};
-ghost use Rattle.dc_affine.specs.Atoms.{IsAtom};
+ghost use Rattle.dc_affine.specs.Atoms.{IsAtom, most_constant};
 ghost use Rattle.dc_entail.specs.Columns.{IsColumnOf, with_entry, place_numbers, column_numbers};
 
 use dc_affine::Atom;
@@ -9,7 +9,7 @@ use std::alloc::{AllocError, Global};
 
 /// Adds an entry, where its value isn't 0.
 fn push_entry(entries: &mut Vec<Entry>, row: usize, value: &i64) -> Result<(), AllocError>
-    requires small { unsigned_abs value.now ≤ 2147483648 }
+    requires small { unsigned_abs value.now ≤ most_constant }
     ensures { OnOk result (entries.new.items ≡ with_entry row value.now entries.old.items) }
 {
     if *value != 0 {

@@ -2,6 +2,7 @@
 use Rattle.std.specs.Prelude.{ℕ, Bool, leb, if◌then◌else◌, List, [], ◌∷◌, ◌++◌, map, filter, flat_map, ℤ, pos, ◌+ℤ◌, ◌-ℤ◌, neg_ℤ, int_lt, unsigned_abs}
 use Rattle.std.specs.Ordering.{int_eq}
 use Rattle.dc_affine.specs.declared.atom.Atom.{Atom}
+use Rattle.dc_affine.specs.Atoms.{most_constant}
 use Rattle.dc_system.specs.declared.edges.System.{System}
 
 -- 0, each literal, and the size of the constant of each atom of the condition
@@ -16,7 +17,7 @@ around c =
 
 -- the largest size of a bound
 abbrev pub largest_bound : ℕ
-largest_bound = 2147483648
+largest_bound = most_constant
 
 abbrev pub is_within : ℤ → Bool
 is_within b = leb (unsigned_abs b) largest_bound

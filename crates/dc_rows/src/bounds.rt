@@ -2,18 +2,18 @@
 ghost use Rattle.std.specs.Prelude.{◌≡◌, ◌≤◌, ◌++◌, IfOk, OnOk, filter, flat_map, ℕ};
 ghost use Rattle.std.specs.List.{AllByRecursion};
 ghost use Rattle.dc_affine.specs.Atoms.{IsAtom};
-ghost use Rattle.dc_rows.specs.Bounds.{around, mentioned, is_within, candidate_bounds};
+ghost use Rattle.dc_rows.specs.Bounds.{around, largest_bound, mentioned, is_within, candidate_bounds};
 
-use dc_affine::Atom;
+use dc_affine::{Atom, MOST_CONSTANT};
 use dc_system::System;
 use std::alloc::{AllocError, Global};
 
 // The largest size of a bound.
-const LARGEST: u64 = 2147483648;
+const LARGEST: u64 = MOST_CONSTANT as u64;
 
 // A number with the numbers next to it, and the negations of all three.
 fn around(size: u64) -> [i64; 6]
-    requires { size ≤ 2147483648 }
+    requires { size ≤ largest_bound }
     ensures { result ≡ around size }
 {
     let c = size as i64;
@@ -34,7 +34,7 @@ fn add_within(bounds: &mut Vec<i64>, more: &[i64]) -> Result<(), AllocError>
 
 // The bounds next to a number.
 fn add_near(bounds: &mut Vec<i64>, size: u64) -> Result<(), AllocError>
-    requires { size ≤ 2147483648 }
+    requires { size ≤ largest_bound }
     ensures { OnOk result (bounds.new.items ≡ bounds.old.items ++ filter is_within (around size)) }
 {
     add_within(bounds, &around(size))
