@@ -55,6 +55,7 @@ tally-hit test c (suc n) once = by (test n) refl (tally-hit test c n once)
         or : (b : Bool) → test a ≡ b → cond b c 0 ≡ 0
         or true g = absurd (let q : a ≡ n = once a n g e in omega arith)
         or false g = refl
+
     by : (b : Bool) → test n ≡ b → tally (hit test c) n ≤ c → tally (hit test c) n + cond b c 0 ≤ c
     by true e r = let z = tally-none (hit test c) n (before e) in omega arith
     by false e r = omega arith
