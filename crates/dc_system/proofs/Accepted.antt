@@ -13,31 +13,23 @@ use Rattle.dc_syntax.specs.Trees.{EachExpr, EachCond, EachStmt}
 use Rattle.dc_syntax.proofs.Inductions.{Expr-induction, Cond-induction, Stmt-induction}
 use Rattle.dc_affine.specs.Whole as whole
 use Rattle.dc_affine.specs.Whole.{FormsPass}
-use Rattle.dc_program.specs.Limits.{literals_step, literals_fit, cond_literals_step, cond_literals_fit, operators, cond_operators, is_limited, cond_is_limited, statement_limited, limits_step, stmt_is_limited, all_limited}
+use Rattle.dc_program.specs.Limits.{literals_step, literals_fit, cond_literals_step, cond_literals_fit, is_limited, cond_is_limited, statement_limited, limits_step, stmt_is_limited, all_limited}
 use Rattle.dc_program.specs.Programs.{IsProgram}
 use Rattle.dc_system.specs.Literals.{expr_numbers_step, expr_numbers, cond_numbers_step, cond_numbers, joined, stmt_numbers_step, stmt_numbers, numbers_of}
-use Rattle.dc_system.proofs.Operators.{stmt_operators_step, stmt_operators, operators_of}
 
 pub record IsAccepted (p : Proc) : Type 0 where
   pub few_names : length p.names ≤ 10
   pub params_first : p.params ≤ length p.names
   pub small_literals : AllByRecursion (λ k. k ≤ 2147483647) (numbers_of p.body)
-  pub few_operators : AllByRecursion (λ k. k ≤ 64) (operators_of p.body)
+  pub limited : all_limited p.body ≡ true
   pub passes : FormsPass p
 
 abbrev Small : List ℕ → Type 0
 Small ks = AllByRecursion (λ k. k ≤ 2147483647) ks
 
-abbrev Few : List ℕ → Type 0
-Few ks = AllByRecursion (λ k. k ≤ 64) ks
-
 both_small : (xs ys : List ℕ) → Small xs → Small ys → Small (xs ++ ys)
 both_small [] ys h g = g
 both_small (x ∷ xs) ys h g = (h.0, both_small xs ys h.1 g)
-
-both_few : (xs ys : List ℕ) → Few xs → Few ys → Few (xs ++ ys)
-both_few [] ys h g = g
-both_few (x ∷ xs) ys h g = (h.0, both_few xs ys h.1 g)
 
 and_left : (a b : Bool) → (a && b) ≡ true → a ≡ true
 and_left true b h = refl
@@ -50,14 +42,8 @@ and_right false b h = absurd cc
 small_leb : (n : ℕ) → leb n 2147483647 ≡ true → n ≤ 2147483647
 small_leb n h = grind (arith, nat_tests)
 
-few_leb : (n : ℕ) → leb n 64 ≡ true → n ≤ 64
-few_leb n h = grind (arith, nat_tests)
-
 subst_small : {xs ys : List ℕ} → xs ≡ ys → Small ys → Small xs
 subst_small e h = subst Small (sym e) h
-
-subst_few : {xs ys : List ℕ} → xs ≡ ys → Few ys → Few xs
-subst_few e h = subst Few (sym e) h
 
 -- ---- expressions
 
@@ -85,9 +71,6 @@ expr_of e = Expr-induction ExprOf expr_layer e
 small_expr : (e : Expr) → is_limited e ≡ true → Small (expr_numbers e)
 small_expr e l = expr_of e (and_left _ _ l)
 
-few_expr : (e : Expr) → is_limited e ≡ true → operators e ≤ 64
-few_expr e l = few_leb (operators e) (and_right (literals_fit e) _ l)
-
 -- ---- conditions
 
 abbrev CondOf : Cond → Type 0
@@ -114,13 +97,10 @@ cond_of c = Cond-induction CondOf cond_layer c
 small_cond : (c : Cond) → cond_is_limited c ≡ true → Small (cond_numbers c)
 small_cond c l = cond_of c (and_left _ _ l)
 
-few_cond : (c : Cond) → cond_is_limited c ≡ true → cond_operators c ≤ 64
-few_cond c l = few_leb (cond_operators c) (and_right (cond_literals_fit c) _ l)
-
 -- ---- statements
 
 abbrev StmtOf : Stmt → Type 0
-StmtOf S = stmt_is_limited S ≡ true → Small (stmt_numbers S) × Few (stmt_operators S)
+StmtOf S = stmt_is_limited S ≡ true → Small (stmt_numbers S)
 
 inside : (L : Stmt-F Bool) → limits_step L ≡ true → whole.inner L ≡ true
 inside L h = and_right (statement_limited L) (whole.inner L) h
@@ -128,57 +108,47 @@ inside L h = and_right (statement_limited L) (whole.inner L) h
 own : (L : Stmt-F Bool) → limits_step L ≡ true → statement_limited L ≡ true
 own L h = and_left (statement_limited L) (whole.inner L) h
 
-all_of : (A : List Stmt) → AllByRecursion StmtOf A → whole.each (map stmt_is_limited A) ≡ true → Small (joined (map stmt_numbers A)) × Few (joined (map stmt_operators A))
-all_of [] h l = (tt, tt)
-all_of (S ∷ A) h l =
-    let f = h.0 (and_left _ _ l) in
-    let g = all_of A h.1 (and_right _ _ l) in
-    (both_small (stmt_numbers S) _ f.0 g.0, both_few (stmt_operators S) _ f.1 g.1)
-
-made : (S : Stmt) {xs ys : List ℕ} → stmt_numbers S ≡ xs → stmt_operators S ≡ ys → Small xs → Few ys → Small (stmt_numbers S) × Few (stmt_operators S)
-made S e f h g = (subst_small e h, subst_few f g)
+all_of : (A : List Stmt) → AllByRecursion StmtOf A → whole.each (map stmt_is_limited A) ≡ true → Small (joined (map stmt_numbers A))
+all_of [] h l = tt
+all_of (S ∷ A) h l = both_small (stmt_numbers S) _ (h.0 (and_left _ _ l)) (all_of A h.1 (and_right _ _ l))
 
 stmt_layer : (L : Stmt-F Stmt) → EachStmt StmtOf L → StmtOf (roll-Stmt L)
 unfolding roll-Stmt denote.Hole.Carrier.roll
-stmt_layer H.Skip h l = made (roll-Stmt H.Skip) (fold-roll-Stmt (List ℕ) stmt_numbers_step H.Skip) (fold-roll-Stmt (List ℕ) stmt_operators_step H.Skip) tt tt
-stmt_layer (H.AnyOf i) h l = made (roll-Stmt (H.AnyOf i)) (fold-roll-Stmt (List ℕ) stmt_numbers_step (H.AnyOf i)) (fold-roll-Stmt (List ℕ) stmt_operators_step (H.AnyOf i)) tt tt
+stmt_layer H.Skip h l = subst_small (fold-roll-Stmt (List ℕ) stmt_numbers_step H.Skip) tt
+stmt_layer (H.AnyOf i) h l = subst_small (fold-roll-Stmt (List ℕ) stmt_numbers_step (H.AnyOf i)) tt
 stmt_layer (H.Assign i e) h l =
     let z = (own (H.Assign i e) (sym (fold-roll-Stmt Bool limits_step (H.Assign i e)) ∙ l)) in
-    made (roll-Stmt (H.Assign i e)) (fold-roll-Stmt (List ℕ) stmt_numbers_step (H.Assign i e)) (fold-roll-Stmt (List ℕ) stmt_operators_step (H.Assign i e)) (small_expr e z) (few_expr e z, tt)
+    subst_small (fold-roll-Stmt (List ℕ) stmt_numbers_step (H.Assign i e)) (small_expr e z)
 stmt_layer (H.Tick e) h l =
     let z = (own (H.Tick e) (sym (fold-roll-Stmt Bool limits_step (H.Tick e)) ∙ l)) in
-    made (roll-Stmt (H.Tick e)) (fold-roll-Stmt (List ℕ) stmt_numbers_step (H.Tick e)) (fold-roll-Stmt (List ℕ) stmt_operators_step (H.Tick e)) (small_expr e z) (few_expr e z, tt)
+    subst_small (fold-roll-Stmt (List ℕ) stmt_numbers_step (H.Tick e)) (small_expr e z)
 stmt_layer (H.Assume c) h l =
     let z = (own (H.Assume c) (sym (fold-roll-Stmt Bool limits_step (H.Assume c)) ∙ l)) in
-    made (roll-Stmt (H.Assume c)) (fold-roll-Stmt (List ℕ) stmt_numbers_step (H.Assume c)) (fold-roll-Stmt (List ℕ) stmt_operators_step (H.Assume c)) (small_cond c z) (few_cond c z, tt)
+    subst_small (fold-roll-Stmt (List ℕ) stmt_numbers_step (H.Assume c)) (small_cond c z)
 stmt_layer (H.Between i a b) h l =
     let z = (own (H.Between i a b) (sym (fold-roll-Stmt Bool limits_step (H.Between i a b)) ∙ l)) in
-    made (roll-Stmt (H.Between i a b)) (fold-roll-Stmt (List ℕ) stmt_numbers_step (H.Between i a b)) (fold-roll-Stmt (List ℕ) stmt_operators_step (H.Between i a b)) (both_small (expr_numbers a) (expr_numbers b) (small_expr a (and_left _ _ z)) (small_expr b (and_right _ _ z))) (few_expr a (and_left _ _ z), (few_expr b (and_right _ _ z), tt))
+    subst_small (fold-roll-Stmt (List ℕ) stmt_numbers_step (H.Between i a b)) (both_small (expr_numbers a) (expr_numbers b) (small_expr a (and_left _ _ z)) (small_expr b (and_right _ _ z)))
 stmt_layer (H.If c A B) h l =
     let z = (own (H.If c (map stmt_is_limited A) (map stmt_is_limited B)) (sym (fold-roll-Stmt Bool limits_step (H.If c A B)) ∙ l)) in
     let i = (inside (H.If c (map stmt_is_limited A) (map stmt_is_limited B)) (sym (fold-roll-Stmt Bool limits_step (H.If c A B)) ∙ l)) in
     let f = all_of A h.0 (and_left _ _ i) in
     let g = all_of B h.1 (and_right _ _ i) in
-    made (roll-Stmt (H.If c A B)) (fold-roll-Stmt (List ℕ) stmt_numbers_step (H.If c A B)) (fold-roll-Stmt (List ℕ) stmt_operators_step (H.If c A B)) (both_small (cond_numbers c) _ (small_cond c z) (both_small _ _ f.0 g.0)) (few_cond c z, both_few _ _ f.1 g.1)
+    subst_small (fold-roll-Stmt (List ℕ) stmt_numbers_step (H.If c A B)) (both_small (cond_numbers c) _ (small_cond c z) (both_small _ _ f g))
 stmt_layer (H.IfAny A B) h l =
     let i = (inside (H.IfAny (map stmt_is_limited A) (map stmt_is_limited B)) (sym (fold-roll-Stmt Bool limits_step (H.IfAny A B)) ∙ l)) in
     let f = all_of A h.0 (and_left _ _ i) in
     let g = all_of B h.1 (and_right _ _ i) in
-    made (roll-Stmt (H.IfAny A B)) (fold-roll-Stmt (List ℕ) stmt_numbers_step (H.IfAny A B)) (fold-roll-Stmt (List ℕ) stmt_operators_step (H.IfAny A B)) (both_small _ _ f.0 g.0) (both_few _ _ f.1 g.1)
+    subst_small (fold-roll-Stmt (List ℕ) stmt_numbers_step (H.IfAny A B)) (both_small _ _ f g)
 stmt_layer (H.While c A) h l =
     let z = (own (H.While c (map stmt_is_limited A)) (sym (fold-roll-Stmt Bool limits_step (H.While c A)) ∙ l)) in
     let f = all_of A h (inside (H.While c (map stmt_is_limited A)) (sym (fold-roll-Stmt Bool limits_step (H.While c A)) ∙ l)) in
-    made (roll-Stmt (H.While c A)) (fold-roll-Stmt (List ℕ) stmt_numbers_step (H.While c A)) (fold-roll-Stmt (List ℕ) stmt_operators_step (H.While c A)) (both_small (cond_numbers c) _ (small_cond c z) f.0) (few_cond c z, f.1)
+    subst_small (fold-roll-Stmt (List ℕ) stmt_numbers_step (H.While c A)) (both_small (cond_numbers c) _ (small_cond c z) f)
 stmt_layer (H.WhileAny A) h l =
-    let f = all_of A h (inside (H.WhileAny (map stmt_is_limited A)) (sym (fold-roll-Stmt Bool limits_step (H.WhileAny A)) ∙ l)) in
-    made (roll-Stmt (H.WhileAny A)) (fold-roll-Stmt (List ℕ) stmt_numbers_step (H.WhileAny A)) (fold-roll-Stmt (List ℕ) stmt_operators_step (H.WhileAny A)) f.0 f.1
+    subst_small (fold-roll-Stmt (List ℕ) stmt_numbers_step (H.WhileAny A)) (all_of A h (inside (H.WhileAny (map stmt_is_limited A)) (sym (fold-roll-Stmt Bool limits_step (H.WhileAny A)) ∙ l)))
 
-whole_of : (A : List Stmt) → all_limited A ≡ true → Small (numbers_of A) × Few (operators_of A)
-whole_of [] l = (tt, tt)
-whole_of (S ∷ A) l =
-    let f = Stmt-induction StmtOf stmt_layer S (and_left _ _ l) in
-    let g = whole_of A (and_right _ _ l) in
-    (both_small (stmt_numbers S) _ f.0 g.0, both_few (stmt_operators S) _ f.1 g.1)
+whole_of : (A : List Stmt) → all_limited A ≡ true → Small (numbers_of A)
+whole_of [] l = tt
+whole_of (S ∷ A) l = both_small (stmt_numbers S) _ (Stmt-induction StmtOf stmt_layer S (and_left _ _ l)) (whole_of A (and_right _ _ l))
 
 pub accepted : (p : Proc) → IsProgram p → IsAccepted p
-accepted p h = let w = whole_of p.body h.limited in record { few_names = h.few; params_first = h.params; small_literals = w.0; few_operators = w.1; passes = h.forms }
+accepted p h = record { few_names = h.few; params_first = h.params; small_literals = whole_of p.body h.limited; limited = h.limited; passes = h.forms }

@@ -1,4 +1,3 @@
-pub mod Operators
 pub mod Accepted
 pub mod Wider
 pub mod Pieces

@@ -48,7 +48,7 @@ pub paths_runs : (p : Proc) → IsProgram p → (s : State) (c : ℤ) (t : State
 paths_runs p program s c t h =
     let a = accepted p program in
     let n = length p.names in
-    let b = labels_pass n p.body a.passes a.few_operators in
+    let b = labels_pass n p.body a.passes a.limited in
     let e : exit_of p.body + 1 - 1 ≡ exit_of p.body = omega arith in (
       (λ w. walk_to_run p.body s t c (path_walk n (arrows_of p.body) b h (subst (λ x. Path (map (edge_of n) (arrows_of p.body)) 0 s c x t) e w))),
       λ r. subst (λ x. Path (map (edge_of n) (arrows_of p.body)) 0 s c x t) (sym e) (walk_path n (arrows_of p.body) b h (run_to_walk p.body s t c r).1),

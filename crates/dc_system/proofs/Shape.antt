@@ -180,7 +180,7 @@ shaped p program f =
     let a = accepted p program in
     let n = length p.names in
     let l = no_fault_small (locations_of p) (length (edges_of p)) _ _ f in
-    let b = labels_pass n p.body a.passes a.few_operators in
+    let b = labels_pass n p.body a.passes a.limited in
     record {
       few_vars = a.few_names;
       params_first = a.params_first;
