@@ -46,7 +46,7 @@ abbrev pub Allowed : List (List Atom) → State → Type 0
 Allowed cases v = some_hold cases v ≡ true
 
 -- ---- sizes
--- the largest size of a constant: a coefficient, or one less
+-- the largest size of a constant, which is a coefficient or 1 less than one
 abbrev pub most_constant : ℕ
 most_constant = most + 1
 

@@ -89,6 +89,9 @@ fn all_signed(alloc: Global, numbers: &[i128], turned: bool) -> Result<Vec<i64>,
 }
 
 /// "The form less a number is at least 0", or turned, with the form's negation.
+///
+/// The atom has the form's own numbers: a coefficient may be as large as `MOST_CONSTANT`, and the
+/// constant larger by the number. Whether it is within an atom's sizes is for the caller.
 pub fn at_least(alloc: Global, form: &Poly, turned: bool, less: i64) -> Result<Atom, AllocError>
     requires kind { IsPolynomial form.now }
     requires fits { (u : Exponents) → unsigned_abs (coef form.now.terms u) ≤ most_constant }

@@ -43,7 +43,8 @@ impl From<AllocError> for FormFault {
 /// The greatest size of a coefficient of a form or an atom.
 pub const MOST_COEFFICIENT: u128 = 2147483647;
 
-/// The greatest size of an atom's constant: that of a coefficient, or one less.
+/// The greatest size of an atom's constant. A constant is a coefficient or 1 less than one, so this
+/// is 1 more than the greatest size of a coefficient.
 pub const MOST_CONSTANT: u128 = 2147483648;
 
 /// Whether each coefficient is at most `MOST_COEFFICIENT` in size.

@@ -29,7 +29,7 @@ pub record SayPair (x y : Bytes) (new old : Proc) : Type 0 where
   pub old_said : SaysProgram y old
   pub agree : HaveSameParams new old
 
--- the fault of a text, with its place
+-- the fault of a text, with its line and column
 pub record IsFaultIn {A : Type 0} (Of : Outcome A → Type 0) (x : Bytes) (f : ParseFault) : Type 0 where
   pub stated : IsRefusal Of x f.line f.col f.kind
   pub other : f.kind ≢ k.NoMemory

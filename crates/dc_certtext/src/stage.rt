@@ -54,7 +54,8 @@ impl Drop for Front {
     }
 }
 
-/// The vectors of the main problem that are read, by the claim, up to the one that is named.
+/// The vectors of the main problem that are read so far: the claim, and the last vector where there
+/// is one.
 pub enum Found {
     Threshold(Frac),
     ThresholdUnknown(Frac, Sparse),

@@ -4,7 +4,7 @@ ghost use Rattle.std.specs.String.{string_bytes};
 ghost use Rattle.dc_answers.specs.Lines.{line_of, site_text, unread_line, bad_line, source_line, large_line, pivot_line, fold_line, spent_line, rejected_line};
 ghost use Rattle.dc_cli.specs.Reports.{IsBuilt};
 
-use crate::words::{count_word, place_in, side_word, text_word, usage, wrong_word};
+use crate::words::{count_word, line_and_column, side_word, text_word, usage, wrong_word};
 use dc_answers::{Refusal, Text, Wrong};
 use dc_entail::Site;
 use dc_syntax::{Count, Side};
@@ -67,7 +67,7 @@ fn source(alloc: Global, text: Text, wrong: &Wrong) -> Result<String, AllocError
     ensures { IfOk result (λ line. string_bytes line ≡ source_line text wrong.now) }
 {
     let text = text_word(text);
-    let (line, column) = place_in(wrong);
+    let (line, column) = line_and_column(wrong);
     let word = wrong_word(wrong);
     let whole = format!(in alloc; "source fault: {text} {line}:{column} {word}\n")?;
     Ok(whole)

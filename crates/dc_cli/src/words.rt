@@ -47,7 +47,7 @@ pub fn count_word(count: Count) -> &'static str
 }
 
 /// The line and the column at which a text is wrong.
-pub fn place_in(wrong: &Wrong) -> (u32, u32)
+pub fn line_and_column(wrong: &Wrong) -> (u32, u32)
     ensures line { result.0 ≡ line_in wrong.now }
     ensures column { result.1 ≡ column_in wrong.now }
 {

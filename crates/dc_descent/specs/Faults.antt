@@ -44,7 +44,7 @@ used_fault text names (t ∷ ts) = option_or (unknown text names t) (used_fault 
 
 -- ---- the grammar
 
--- the offset of the token of this index
+-- the offset of the token at this index
 abbrev pub offset_at : List Token → ℕ → ℕ
 offset_at ts n = head_at (drop n ts)
 

@@ -34,7 +34,7 @@ pub struct Source {
     pub body: Body,
 }
 
-/// The tokens that were read between two moments.
+/// The tokens that were read between what was left before and what is left after.
 fn between<'a>(before: &'a [Token], after: &[Token]) -> &'a [Token]
     requires { length after.now ≤ length before.now }
     ensures { (used : List AnyToken) → before.now ≡ used ++ after.now → result.now ≡ used }

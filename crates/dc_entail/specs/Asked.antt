@@ -8,7 +8,7 @@ use Rattle.dc_simplex.specs.Limits.{Answer, Done, Past, Out, IsAnswer}
 use Rattle.dc_entail.specs.declared.answer.Site.{Site}
 use Rattle.dc_points.specs.Stated.{rational}
 
--- a problem, and the site at which it is asked
+-- a problem, and its site: which problem of an analysis it is
 pub record Asked : Type 0 where
   pub site : Site
   pub problem : Linear ℤ

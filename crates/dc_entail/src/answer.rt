@@ -1,4 +1,4 @@
-//! Answers, and the sites of an analysis at which problems are asked.
+//! Answers, and which problem of an analysis one answers: its site.
 ghost use Rattle.std.specs.Prelude.{◌≡◌, Some};
 ghost use Rattle.dc_entail.specs.Sites.{side_text, site_text};
 

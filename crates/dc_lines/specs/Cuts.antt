@@ -1,4 +1,4 @@
--- A text up to the first byte of a value, and from there on.
+-- A text up to the first byte that equals a given one, and from there on.
 use Rattle.std.specs.Prelude.{◌≡◌, ℕ, eqb, cond, [], ◌∷◌}
 use Rattle.dc_lines.specs.Bytes.{Bytes}
 

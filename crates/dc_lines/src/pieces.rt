@@ -2,7 +2,7 @@
 ghost use Rattle.std.specs.Prelude.{ℕ, List, ◌∷◌, ◌≡◌, ◌≢◌, ◌++◌, MatchBool, MatchOption};
 ghost use Rattle.dc_lines.specs.Cuts.{Lacks, onward, until};
 
-/// The text up to the first byte of a value, and from there on: all of the text and nothing where
+/// The text up to the first byte that is `at`, and from there on: all of the text and nothing where
 /// there is none.
 pub fn cut(text: &[u8], at: u8) -> (&[u8], &[u8])
     ensures front { result.0.now ≡ until at text.now }

@@ -65,7 +65,8 @@ pub record AtRationalPoints : Type 0 where
   pub of_sum : (n : ℕ) (p r : TermList) (q : ℤ) (xs : List ℤ)
       → scaled_value n (plus p r) q xs ≡ scaled_value n p q xs +ℤ scaled_value n r q xs
   pub whole_list : (n : ℕ) (vs : List Polynomial) (xs : List ℤ)
-      → AllByRecursion (λ (v : Polynomial). Affine n v.terms) vs → scaled_values n vs (pos 1) xs ≡ values vs xs
+      → AllByRecursion (λ (v : Polynomial). Affine n v.terms) vs
+      → scaled_values n vs (pos 1) xs ≡ values vs xs
   pub list_any_denominator : (n : ℕ) (vs : List Polynomial) (k q : ℤ) (xs : List ℤ)
       → scaled_values n vs (k *ℤ q) (scale_ℤ k xs) ≡ scale_ℤ k (scaled_values n vs q xs)
 

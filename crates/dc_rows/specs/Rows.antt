@@ -75,7 +75,7 @@ rows_with_repeats s when pairs =
 abbrev pub same_row : Row → Row → Bool
 same_row r q = pointwise int_eq r q
 
--- each once, at its first place
+-- each once, where it stands first
 abbrev pub without_repeats : List Row → List Row
 without_repeats [] = []
 without_repeats (r ∷ rs) = r ∷ filter (λ q. not (same_row r q)) (without_repeats rs)

@@ -20,7 +20,7 @@ const MOST_BOUNDS: usize = 256;
 /// The candidates of a program's system, as `build` gives it, and of the atoms of its condition.
 ///
 /// For a condition in several cases these are the atoms of all cases in order. The rows are, each
-/// at its first place: `x` and `-x` for each variable in order; with `pairs`, for each two
+/// where it stands first: `x` and `-x` for each variable in order; with `pairs`, for each two
 /// variables in order, their difference both ways, their sum and its negation; the linear parts of
 /// the condition's atoms and then of the guards' atoms, but for zero and for atoms that mention a
 /// chosen value. The bounds are 0, the literals and the sizes of the condition's constants, with

@@ -1,4 +1,4 @@
--- Nodes in lines, each line linked by rising index. Rows are lines whose indices are columns, and
+-- Nodes in lines, each line linked by rising index: a number along the line, no address in the arena. Rows are lines whose indices are columns, and
 -- columns are lines whose indices are rows.
 use Rattle.std.specs.Prelude.{◌≡◌, ℕ, ◌+◌, ◌<◌, ◌≤◌, ◌==◌, cond, Bool, true, Option, Some, None}
 

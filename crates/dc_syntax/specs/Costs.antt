@@ -4,7 +4,7 @@ use Rattle.dc_syntax.specs.declared.tree.Proc.{Proc}
 use Rattle.dc_syntax.specs.Value.{State}
 use Rattle.dc_syntax.specs.Run.{Run}
 
--- the values v of so many parameters, followed by 0 for each other of n variables
+-- the values v of the parameters, then 0 for each further one of n variables
 abbrev pub start_with : ℕ → ℕ → State → State
 start_with n params v = v ++ replicate (n - params) (pos 0)
 

@@ -5,7 +5,7 @@ ghost use Rattle.dc_system.specs.Literals.{cond_numbers, expr_numbers, numbers_o
 use dc_syntax::{Cond, Expr, Stmt};
 use std::alloc::AllocError;
 
-// Puts a literal in its place, unless it is there.
+// Puts a literal where it belongs, unless it is there.
 #[tactic(auto, using(crate::proofs::Rising::placing))]
 fn add(literals: &mut Vec<u32>, value: u32) -> Result<(), AllocError>
     ensures { OnOk result (literals.new.items ≡ with_number value literals.old.items) }

@@ -26,7 +26,7 @@ pub struct RowAfter {
     /// One for each variable, and a last one for the value that the edge chooses.
     pub coefs: Items<i128>,
     /// Whether the form is affine after the update. Then it is the constant and the sum of the
-    /// coefficients times the variables.
+    /// coefficients times the variables and that value.
     pub is_affine: bool,
 }
 

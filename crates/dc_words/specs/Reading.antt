@@ -62,7 +62,8 @@ command_of (word ∷ rest) =
 
 -- the first word names a command, and the command takes the rest
 abbrev pub takes_words : List Text → Bool
-takes_words words = option_map_or (λ command. takes_line (clap_of command) words) (command_of words) false
+takes_words words =
+    option_map_or (λ command. takes_line (clap_of command) words) (command_of words) false
 
 -- ---- values
 

@@ -64,7 +64,8 @@ sources_rules = required (codes "NEW") ∷ required (codes "OLD") ∷ option (co
 abbrev pub settings_rules : Lent → List Rule
 settings_rules names =
     with_default (codes "2") (read_by (vp.Signed (pos 0) (pos most_degree)) (option (codes "degree")))
-    ∷ with_default (codes "2") (read_by (vp.Signed (pos 1) (pos most_products)) (option (codes "products")))
+    ∷ with_default (codes "2") (read_by (vp.Signed (pos 1) (pos most_products))
+    (option (codes "products")))
     ∷ rows_rule names
     ∷ with_default (codes "100000") (read_by (vp.Unsigned 1 most_pivots) (option (codes "pivots"))) ∷ []
 

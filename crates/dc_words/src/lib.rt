@@ -31,8 +31,9 @@ pub enum Words {
         old_name: String,
         /// The condition on the inputs, if there is one.
         when: Option<String>,
-        /// How a bound is sought: the degree 0 to 3, 1 to 3 products, which rows, and 1 to
-        /// 1,000,000 pivots.
+        /// How a bound is sought: the degree of the templates, 0 to 3; how many factors a product
+        /// has at most, 1 to 3; whether the candidates bound sums and differences of two variables
+        /// too; how many pivots a problem may take, 1 to 1,000,000.
         settings: Settings,
     },
     /// `check NEW OLD CERT [--when TEXT]`: check a certificate against two sources.
