@@ -1,5 +1,5 @@
--- Nodes in lines, each line linked by rising index: a number along the line, no address in the arena. Rows are lines whose indices are columns, and
--- columns are lines whose indices are rows.
+-- Nodes in lines, each line linked by rising index: a number along the line, no address in the
+-- arena. Rows are lines whose indices are columns, and columns are lines whose indices are rows.
 use Rattle.std.specs.Prelude.{◌≡◌, ℕ, ◌+◌, ◌<◌, ◌≤◌, ◌==◌, cond, Bool, true, Option, Some, None}
 
 -- which nodes stand in lines, in which line and at which index, and what is linked behind each
