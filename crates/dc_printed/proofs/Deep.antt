@@ -1,5 +1,5 @@
 -- The tokens of a source nest too deep exactly where an expression or a condition of it has more than 64 operators, or more than 64 brackets are open.
-use Rattle.std.proofs.Common.{◌≡◌, ℕ, suc, ◌+◌, ◌<◌, ◌≤◌, Bool, true, false, leb, List, [], ◌∷◌, length, take, Some, None, refl, ap, ◌∙◌, subst, arith, inl, inr}
+use Rattle.std.proofs.Common.{◌≡◌, ℕ, suc, ◌<◌, ◌≤◌, Bool, true, false, leb, List, [], ◌∷◌, length, take, Some, None, refl, arith, inl, inr}
 use Rattle.std.specs.Prelude.{fold}
 use Rattle.std.specs.declared.option.Option.{Option}
 use Rattle.std.specs.Option.{unwrap_or}
@@ -14,9 +14,8 @@ use Rattle.dc_grammar.specs.Language.{language, source}
 use Rattle.dc_grammar.specs.Depth.{IsDeep, open_brackets, operators_so_far, operators_with}
 use Rattle.dc_grammar.specs.Verdicts.{Shallow}
 use Rattle.dc_syntax.specs.Names.{place_of}
-use Rattle.dc_program.specs.Limits.{all_limited}
 use Rattle.dc_descent.specs.Scopes.{spelled, place_in}
-use Rattle.dc_descent.specs.Sources.{parts_of, names_of, body_of}
+use Rattle.dc_descent.specs.Sources.{parts_of, names_of}
 use Rattle.dc_parse.proofs.Facts.{Known}
 use Rattle.dc_parse.proofs.Shallows.{small_tokens, few_of}
 use Rattle.dc_parse.proofs.Sourced.{source_body}

@@ -1,5 +1,5 @@
 -- Where the variables of what tokens say are below n, each name among the tokens has a place below n.
-use Rattle.std.proofs.Common.{◌≡◌, ℕ, ◌<◌, Bool, true, false, ◌&&◌, nat_lt, List, [], ◌∷◌, ◌++◌, Option, Some, None, refl, sym, ap, ◌∙◌}
+use Rattle.std.proofs.Common.{◌≡◌, ℕ, ◌<◌, Bool, true, false, ◌&&◌, ltb, List, [], ◌∷◌, ◌++◌, Option, Some, None, refl, sym, ap, ◌∙◌}
 use Rattle.std.specs.Prelude.{if◌then◌else◌}
 use Rattle.std.specs.List.{AllByRecursion}
 use Rattle.dc_tokens.specs.declared.token.TokenKind.{TokenKind}
@@ -104,10 +104,10 @@ module _ (n : ℕ) (q : Token → ℕ) where
   know_choice (name (second d)) f = know_cond d f
 
   know_assigned : {us : List Token} {a : Tree Token} (i : ℕ) → Derives language (ref assigned) us a → stmt_fits n (assigned_of q i a) ≡ true → (i < n) × AllByRecursion (Known n q) us
-  know_assigned i (name (first {a = x} d)) f = let z : (nat_lt i n && fits n (expr_of q x)) ≡ true = sym (fits-Assign n i (expr_of q x)) ∙ f in (below (and_left _ _ z), know_expr d (and_right _ _ z))
+  know_assigned i (name (first {a = x} d)) f = let z : (ltb i n && fits n (expr_of q x)) ≡ true = sym (fits-Assign n i (expr_of q x)) ∙ f in (below (and_left _ _ z), know_expr d (and_right _ _ z))
   know_assigned i (name (second (both (token {t = t} h) (second nothing)))) f = (below (sym (fits-AnyOf n i) ∙ f), (other k.Any t h (λ e. cc), tt))
   know_assigned i (name (second (both (token {t = t} h) (first (both (token {t = o} e) (both {u = u} {a = x} d (both (token {t = m} g) (both {u = v} {a = y} r (token {t = c} s))))))))) f =
-      let z : (nat_lt i n && (fits n (expr_of q x) && fits n (expr_of q y))) ≡ true = sym (fits-Between n i (expr_of q x) (expr_of q y)) ∙ f in
+      let z : (ltb i n && (fits n (expr_of q x) && fits n (expr_of q y))) ≡ true = sym (fits-Between n i (expr_of q x) (expr_of q y)) ∙ f in
       let w : (fits n (expr_of q x) && fits n (expr_of q y)) ≡ true = and_right _ _ z in (
         below (and_left _ _ z),
         (

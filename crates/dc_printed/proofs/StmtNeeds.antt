@@ -1,6 +1,6 @@
 -- The brackets that statements need, by a measure; their text has no others.
 use Rattle.std.specs.List.{AllByRecursion}
-use Rattle.std.proofs.Common.{◌≡◌, ℕ, suc, ◌<◌, true, ◌&&◌, nat_lt, List, [], ◌∷◌, ◌++◌, map, length, refl, sym, ap, subst, ◌∙◌, append_assoc}
+use Rattle.std.proofs.Common.{◌≡◌, ℕ, suc, ◌<◌, true, ◌&&◌, ltb, List, [], ◌∷◌, ◌++◌, map, length, refl, sym, ap, subst, ◌∙◌, append_assoc}
 use Rattle.std.specs.Prelude.{slice_index_or}
 use Rattle.dc_syntax.specs.declared.tree.Expr.{Expr}
 use Rattle.dc_syntax.specs.declared.tree.Cond.{Cond}
@@ -137,14 +137,14 @@ module _ (M : Measure) where
     unfolding roll-Stmt denote.Hole.Carrier.roll
     stmt_layer G.Skip h f = sized_as _ _ _ _ (text-Skip names) need-Skip M.empty
     stmt_layer (G.Assign i e) h f =
-        let z : (nat_lt i (length names) && fits (length names) e) ≡ true = sym (fits-Assign (length names) i e) ∙ f in
+        let z : (ltb i (length names) && fits (length names) e) ≡ true = sym (fits-Assign (length names) i e) ∙ f in
         sized_as _ _ _ _ (text-Assign names i e) (need-Assign i e)
         (plain_before M (slice_index_or names i []) _ _ (name_plain i (below (and_left _ _ z))) (plain_after M (expr_text names e) (59 ∷ 10 ∷ []) _ refl (expr_sized M names are e (and_right _ _ z))))
     stmt_layer (G.AnyOf i) h f =
         sized_as _ _ _ _ (text-AnyOf names i) (need-AnyOf i)
         (plain_before M (slice_index_or names i []) (32 ∷ 61 ∷ 32 ∷ 97 ∷ 110 ∷ 121 ∷ 59 ∷ 10 ∷ []) 0 (name_plain i (below (sym (fits-AnyOf (length names) i) ∙ f))) M.empty)
     stmt_layer (G.Between i a b) h f =
-        let z : (nat_lt i (length names) && (fits (length names) a && fits (length names) b)) ≡ true = sym (fits-Between (length names) i a b) ∙ f in
+        let z : (ltb i (length names) && (fits (length names) a && fits (length names) b)) ≡ true = sym (fits-Between (length names) i a b) ∙ f in
         let y : (fits (length names) a && fits (length names) b) ≡ true = and_right _ _ z in
         let t : List ℕ = expr_text names a in
         let u : List ℕ = expr_text names b in

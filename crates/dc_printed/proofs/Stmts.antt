@@ -1,6 +1,6 @@
 -- The text of statements reads as the statements.
 use Rattle.std.specs.List.{AllByRecursion}
-use Rattle.std.proofs.Common.{◌≡◌, ℕ, ◌+◌, ◌<◌, true, ◌&&◌, nat_lt, List, [], ◌∷◌, ◌++◌, length, drop, get_or, Option, Some, None, refl, sym, ap, subst, ◌∙◌, arith, append_assoc, length-append}
+use Rattle.std.proofs.Common.{◌≡◌, ℕ, ◌+◌, ◌<◌, true, ◌&&◌, ltb, List, [], ◌∷◌, ◌++◌, length, drop, get_or, Option, Some, None, refl, sym, ap, subst, ◌∙◌, arith, append_assoc, length-append}
 use Rattle.std.specs.Prelude.{slice_index_or}
 use Rattle.dc_tokens.specs.declared.token.TokenKind.{TokenKind}
 use Rattle.dc_tokens.specs.declared.token.TokenKind.TheVariants as k
@@ -276,7 +276,7 @@ module _ (p : Token → ℕ) (whole : List ℕ) (names : List (List ℕ)) (finds
   read-Assign : (i : ℕ) (e : Expr) → Read (s.Assign i e)
   read-Assign i e f at rest q =
       let w : List ℕ = slice_index_or names i [] in
-      let z : (nat_lt i (length names) && fits (length names) e) ≡ true = sym (fits-Assign (length names) i e) ∙ f in
+      let z : (ltb i (length names) && fits (length names) e) ≡ true = sym (fits-Assign (length names) i e) ∙ f in
       let l : i < length names = below (and_left _ _ z) in
       let r = q ∙ (ap (λ v. v ++ rest) (text-Assign names i e) ∙ append_assoc w (32 ∷ 61 ∷ 32 ∷ (expr_text names e ++ 59 ∷ 10 ∷ [])) rest) in
       reworded_stmt p at rest (s.Assign i e) (sym (text-Assign names i e))
@@ -296,7 +296,7 @@ module _ (p : Token → ℕ) (whole : List ℕ) (names : List (List ℕ)) (finds
       let w : List ℕ = slice_index_or names i [] in
       let t : List ℕ = expr_text names a in
       let u : List ℕ = expr_text names b in
-      let z : (nat_lt i (length names) && (fits (length names) a && fits (length names) b)) ≡ true = sym (fits-Between (length names) i a b) ∙ f in
+      let z : (ltb i (length names) && (fits (length names) a && fits (length names) b)) ≡ true = sym (fits-Between (length names) i a b) ∙ f in
       let y : (fits (length names) a && fits (length names) b) ≡ true = and_right _ _ z in
       let l : i < length names = below (and_left _ _ z) in
       let g = sym (grouped_between w t u) in

@@ -1,18 +1,19 @@
 -- What a procedure must be to have a text: its names can be written, and its places and numbers are
 -- in range.
-use Rattle.std.specs.Prelude.{◌≡◌, ℕ, ◌<◌, ◌≤◌, Bool, true, ◌&&◌, nat_lt, nat_le, List, [], ◌∷◌, length, map, slice_index_or}
+use Rattle.std.specs.Prelude.{◌≡◌, ℕ, ◌<◌, ◌≤◌, Bool, true, ◌&&◌, List, [], length, map, slice_index_or}
 use Rattle.std.specs.Str.{bytes_eq}
 use Rattle.std.specs.List.{IsDistinct}
 use Rattle.dc_tokens.specs.declared.token.TokenKind.TheVariants as k
 use Rattle.dc_tokens.specs.Spelling.{is_word, word_kind}
-use Rattle.dc_syntax.specs.declared.tree.Expr.{Expr, Expr-F, fold-Expr}
-use Rattle.dc_syntax.specs.declared.tree.Expr.TheOpen as F
-use Rattle.dc_syntax.specs.declared.tree.Cond.{Cond, Cond-F, fold-Cond}
-use Rattle.dc_syntax.specs.declared.tree.Cond.TheOpen as G
+use Rattle.dc_syntax.specs.declared.tree.Expr.{Expr}
+use Rattle.dc_syntax.specs.declared.tree.Cond.{Cond}
 use Rattle.dc_syntax.specs.declared.tree.Proc.{Proc}
 use Rattle.dc_syntax.specs.declared.tree.Stmt.{Stmt, Stmt-F, fold-Stmt}
 use Rattle.dc_syntax.specs.declared.tree.Stmt.TheOpen.{Skip, Assign, AnyOf, Between, Tick, Assume, If, IfAny, While, WhileAny}
-use Rattle.dc_affine.specs.Whole.{each}
+use Rattle.dc_affine.specs.Forms.{is_below}
+use Rattle.dc_affine.specs.Atoms.{cond_is_below}
+use Rattle.dc_affine.specs.Whole.{statement_below, inner, each}
+use Rattle.dc_program.specs.Limits.{literals_fit, cond_literals_fit}
 
 -- a name: a letter or `_`, then letters, digits and `_`, and no keyword
 pub record IsName (w : List ℕ) : Type 0 where
@@ -20,39 +21,28 @@ pub record IsName (w : List ℕ) : Type 0 where
   pub no_keyword : word_kind w ≡ k.Name
 
 -- the variables are below n, and the numbers are those that a text may have
-abbrev pub fits_step : ℕ → Expr-F Bool → Bool
-fits_step n (F.Num k) = nat_le k 2147483647
-fits_step n (F.Var k) = nat_lt k n
-fits_step n (F.Neg a) = a
-fits_step n (F.Add a b) = a && b
-fits_step n (F.Sub a b) = a && b
-fits_step n (F.Mul a b) = a && b
-
 abbrev pub fits : ℕ → Expr → Bool
-fits n e = fold-Expr Bool (fits_step n) e
-
-abbrev pub cond_fits_step : ℕ → Cond-F Bool → Bool
-cond_fits_step n G.True = true
-cond_fits_step n G.False = true
-cond_fits_step n (G.Cmp a r b) = fits n a && fits n b
-cond_fits_step n (G.Not c) = c
-cond_fits_step n (G.And c d) = c && d
-cond_fits_step n (G.Or c d) = c && d
+fits n e = is_below n e && literals_fit e
 
 abbrev pub cond_fits : ℕ → Cond → Bool
-cond_fits n c = fold-Cond Bool (cond_fits_step n) c
+cond_fits n c = cond_is_below n c && cond_literals_fit c
 
+-- the literals of a statement's own expressions and condition, without the statements inside it
+abbrev pub statement_literals_fit : {A : Type 0} → Stmt-F A → Bool
+statement_literals_fit Skip = true
+statement_literals_fit (Assign k e) = literals_fit e
+statement_literals_fit (AnyOf k) = true
+statement_literals_fit (Between k a b) = literals_fit a && literals_fit b
+statement_literals_fit (Tick e) = literals_fit e
+statement_literals_fit (Assume c) = cond_literals_fit c
+statement_literals_fit (If c A B) = cond_literals_fit c
+statement_literals_fit (IfAny A B) = true
+statement_literals_fit (While c A) = cond_literals_fit c
+statement_literals_fit (WhileAny A) = true
+
+-- with the statements inside it
 abbrev pub stmt_fits_step : ℕ → Stmt-F Bool → Bool
-stmt_fits_step n Skip = true
-stmt_fits_step n (Assign k e) = nat_lt k n && fits n e
-stmt_fits_step n (AnyOf k) = nat_lt k n
-stmt_fits_step n (Between k a b) = nat_lt k n && (fits n a && fits n b)
-stmt_fits_step n (Tick e) = fits n e
-stmt_fits_step n (Assume c) = cond_fits n c
-stmt_fits_step n (If c A B) = cond_fits n c && (each A && each B)
-stmt_fits_step n (IfAny A B) = each A && each B
-stmt_fits_step n (While c A) = cond_fits n c && each A
-stmt_fits_step n (WhileAny A) = each A
+stmt_fits_step n L = statement_below n L && statement_literals_fit L && inner L
 
 abbrev pub stmt_fits : ℕ → Stmt → Bool
 stmt_fits n S = fold-Stmt Bool (stmt_fits_step n) S

@@ -1,6 +1,5 @@
 -- A procedure with a loop for each cost has a text, whose brackets nest three deep at most.
-use Rattle.std.proofs.Common.{◌≡◌, ℕ, suc, ◌≤◌, true, ◌&&◌, nat_lt, nat_le, List, [], ◌∷◌, codes, refl, ap, ◌∙◌, arith}
-use Rattle.std.proofs.lemmas.Bool.Decides.{nat_tests}
+use Rattle.std.proofs.Common.{◌≡◌, ℕ, suc, ◌≤◌, true, ◌&&◌, ltb, List, [], ◌∷◌, codes, refl, ap, ◌∙◌, arith}
 use Rattle.std.specs.Prelude.{max}
 use Rattle.std.specs.List.{IsDistinct}
 use Rattle.std.specs.Str.{bytes_eq}
@@ -18,7 +17,7 @@ use Rattle.dc_printed.proofs.Parts.{fits-Num, fits-Var, fits-Add, fits-Cmp}
 use Rattle.dc_printed.proofs.Spelled.{are_names}
 use Rattle.dc_printed.proofs.StmtParts.{fits-Assign, fits-Tick, fits-While}
 use Rattle.dc_sample_laws.specs.Procedures.{loop_of, loops_of, sample_proc}
-use Rattle.dc_sample_laws.proofs.Forms.{AreLiterals, test}
+use Rattle.dc_sample_laws.proofs.Forms.{AreLiterals, to_leb, test}
 
 -- ---- its names
 
@@ -40,11 +39,8 @@ distinct = ((refl, tt), (tt, tt))
 
 -- ---- its parts are in range
 
-to_nat_le : (n limit : ℕ) → n ≤ limit → nat_le n limit ≡ true
-to_nat_le n limit h = grind (arith, nat_tests)
-
 num_fits : (c : ℕ) → c ≤ 2147483647 → fits 2 (Num c) ≡ true
-num_fits c h = fits-Num 2 c ∙ to_nat_le c 2147483647 h
+num_fits c h = fits-Num 2 c ∙ to_leb c 2147483647 h
 
 next_fits : fits 2 (Add (Var 1) (Num 1)) ≡ true
 next_fits = fits-Add 2 (Var 1) (Num 1) ∙ (λ j. fits-Var 2 1 j && fits-Num 2 1 j)
@@ -53,7 +49,7 @@ test_fits : cond_fits 2 test ≡ true
 test_fits = fits-Cmp 2 (Var 1) Lt (Var 0) ∙ (λ j. fits-Var 2 1 j && fits-Var 2 0 j)
 
 start_fits : stmt_fits 2 (Assign 1 (Num 0)) ≡ true
-start_fits = fits-Assign 2 1 (Num 0) ∙ ap (λ b. nat_lt 1 2 && b) (fits-Num 2 0)
+start_fits = fits-Assign 2 1 (Num 0) ∙ ap (λ b. ltb 1 2 && b) (fits-Num 2 0)
 
 loop_fits : (c : ℕ) → c ≤ 2147483647 → stmt_fits 2 (loop_of c) ≡ true
 loop_fits c h = fits-While 2 test (Tick (Num c) ∷ Assign 1 (Add (Var 1) (Num 1)) ∷ []) ∙ (λ j. test_fits j && (pay j && (next j && true)))
@@ -62,7 +58,7 @@ loop_fits c h = fits-While 2 test (Tick (Num c) ∷ Assign 1 (Add (Var 1) (Num 1
     pay = fits-Tick 2 (Num c) ∙ num_fits c h
 
     next : stmt_fits 2 (Assign 1 (Add (Var 1) (Num 1))) ≡ true
-    next = fits-Assign 2 1 (Add (Var 1) (Num 1)) ∙ ap (λ b. nat_lt 1 2 && b) next_fits
+    next = fits-Assign 2 1 (Add (Var 1) (Num 1)) ∙ ap (λ b. ltb 1 2 && b) next_fits
 
 loops_fit : (costs : List ℕ) → AreLiterals costs → stmts_fit 2 (loops_of costs) ≡ true
 loops_fit [] h = refl
