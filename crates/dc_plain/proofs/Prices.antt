@@ -14,7 +14,7 @@ use Rattle.dc_poly.specs.Terms.{value}
 use Rattle.dc_poly.proofs.Values.{value-constant}
 use Rattle.dc_affine.specs.Forms.{Formed, form_step, form_of}
 use Rattle.dc_graph.specs.Labels.{Label, Arrow, arrow, idle, pays}
-use Rattle.dc_graph.specs.Pieces.{Piece, sizes, first, placed, piece, pieces, piece_in, exit_of, arrows_of}
+use Rattle.dc_graph.specs.Pieces.{Piece, sizes, first, all_arrows, piece, pieces, piece_in, exit_of, arrows_of}
 use Rattle.dc_graph.proofs.Parts.{piece_out}
 use Rattle.dc_system.specs.declared.edges.Edge.{Edge}
 use Rattle.dc_system.specs.declared.edges.System.{System}
@@ -43,20 +43,20 @@ form-number n e _ k x o h = cc
 pub record IsPaying (n c : ℕ) (p : Piece) : Type 0 where
   pub label : Label
   pub size : p.size ≡ 1
-  pub place : (k l : ℕ) → p.place k l ≡ arrow k l label ∷ []
+  pub arrows : (k l : ℕ) → p.arrows k l ≡ arrow k l label ∷ []
   pub cost : (x : List ℤ) → value (cost_of n label).terms x ≡ pos c
 
 paying_in : (n c : ℕ) (L : Stmt-F Stmt) → plain_in L ≡ Some c → IsPaying n c (piece_in L)
 paying_in n c Skip h = record {
   label = idle;
   size = refl;
-  place = λ k l. refl;
+  arrows = λ k l. refl;
   cost = λ x. value-constant (pos 0) (n + 1) x ∙ (let q : 0 ≡ c = cc in ap pos q);
 }
 paying_in n c (Tick e) h = record {
   label = pays e;
   size = refl;
-  place = λ k l. refl;
+  arrows = λ k l. refl;
   cost = λ x. form-number (n + 1) e (out-Expr e) c x refl h;
 }
 paying_in n c _ h = cc
@@ -108,26 +108,26 @@ first_price n (S ∷ R) b k l price h e g =
 edge_pays : (a b c : ℕ) (y u w : ℤ) → a + b ≡ c → y ≡ pos a → u ≡ pos c → w ≡ pos b → y ≡ u -ℤ w
 edge_pays a b c y u w e f g h = omega (arith, ints)
 
-placed_paid : (n : ℕ) (A : List Stmt) (c k l : ℕ) (price : ℕ → ℤ) → plain_cost A ≡ Some c → l ≡ k + sizes (pieces A)
+laid_paid : (n : ℕ) (A : List Stmt) (c k l : ℕ) (price : ℕ → ℤ) → plain_cost A ≡ Some c → l ≡ k + sizes (pieces A)
     → ((i : ℕ) → price (k + i) ≡ pos (left A i))
-    → (a : Arrow) → Among a (placed (pieces A) k l) → (x : List ℤ) → value (cost_of n a.label).terms x ≡ price a.from -ℤ price a.to
+    → (a : Arrow) → Among a (all_arrows (pieces A) k l) → (x : List ℤ) → value (cost_of n a.label).terms x ≡ price a.from -ℤ price a.to
 unfolding left
-placed_paid n [] c k l price h e g a i x = elim i [ ]
-placed_paid n (S ∷ R) c k l price h e g a i x =
+laid_paid n [] c k l price h e g a i x = elim i [ ]
+laid_paid n (S ∷ R) c k l price h e g a i x =
     let p : _ = both-parts (plain_in (out-Stmt S)) (plain_cost R) c h in
     let P = paying n p.0 S p.2 in
     let z : (piece S).size ≡ 1 = P.size in
     let next : ℕ = k + (piece S).size in
     let f : l ≡ next + sizes (pieces R) = omega arith in
     let r : (j : ℕ) → price (next + j) ≡ pos (left R j) = λ j. (let q : k + suc j ≡ next + j = omega arith in subst (λ m. price m ≡ pos (left R j)) q (g (suc j))) in
-    elim (among-++ ((piece S).place k (first (pieces R) next l)) i) [
+    elim (among-++ ((piece S).arrows k (first (pieces R) next l)) i) [
       | inl j ↦
-          let q : arrow k (first (pieces R) next l) P.label ≡ a = sym (among-one (subst (Among a) (P.place k (first (pieces R) next l)) j)) in
+          let q : arrow k (first (pieces R) next l) P.label ≡ a = sym (among-one (subst (Among a) (P.arrows k (first (pieces R) next l)) j)) in
           subst (λ (a : Arrow). value (cost_of n a.label).terms x ≡ price a.from -ℤ price a.to) q
           (edge_pays p.0 p.1 c _ _ _ p.4 (P.cost x)
           (let o : k + 0 ≡ k = omega arith in subst (λ m. price m ≡ pos c) o (g 0 ∙ ap pos (left_start (S ∷ R) c h)))
           (first_price n R p.1 next l price p.3 f r))
-      | inr j ↦ placed_paid n R p.1 next l price p.3 f r a j x
+      | inr j ↦ laid_paid n R p.1 next l price p.3 f r a j x
     ]
 
 -- ---- the system
@@ -139,5 +139,5 @@ system_paid p c h = record {
   edges = λ e i x.
       let m : Mapped (edge_of (length p.names)) e (arrows_of p.body) = mapped_among (edge_of (length p.names)) (arrows_of p.body) i in
       subst (λ (e : Edge). value e.cost.terms x ≡ pos (left p.body e.from) -ℤ pos (left p.body e.to)) (sym m.is)
-      (placed_paid (length p.names) p.body c 0 (exit_of p.body) (λ i. pos (left p.body i)) h (omega arith) (λ i. (let q : i ≡ 0 + i = omega arith in ap (λ j. pos (left p.body j)) (sym q))) m.of m.among x);
+      (laid_paid (length p.names) p.body c 0 (exit_of p.body) (λ i. pos (left p.body i)) h (omega arith) (λ i. (let q : i ≡ 0 + i = omega arith in ap (λ j. pos (left p.body j)) (sym q))) m.of m.among x);
 }

@@ -23,7 +23,7 @@ pub returns-in-Analyse-clause-ok : goal.returns-in-Analyse-clause-ok
 returns-in-Analyse-clause-ok g c =
     let a = c.in-Analyse in
     same_output (visit_of g.S.Store.files g.S.Store.faults g.S.Store.call c.args.store.now c.analyse.new.store) _ (reading_of c.args.asked.now)
-    (analyse_reading a.new_name a.old_name a.when a.settings.now _ c.as_str-new.result.now c.as_str-old.result.now
+    (analyse_reading a.new_name a.old_name a.when a.settings _ c.as_str-new.result.now c.as_str-old.result.now
     (option_map (λ z. z.now) c.text_in.result) c.as_str-new.ensures.value c.as_str-old.ensures.value c.text_in.ensures refl ∙ ap reading_of (sym a.is))
     (cross_meaning c.analyse.new.tableau) c.analyse.result c.analyse.ensures.ok
 
@@ -31,7 +31,7 @@ pub returns-in-Analyse-clause-refused : goal.returns-in-Analyse-clause-refused
 returns-in-Analyse-clause-refused g c =
     let a = c.in-Analyse in
     same_refused (visit_of g.S.Store.files g.S.Store.faults g.S.Store.call c.args.store.now c.analyse.new.store) _ (reading_of c.args.asked.now)
-    (analyse_reading a.new_name a.old_name a.when a.settings.now _ c.as_str-new.result.now c.as_str-old.result.now
+    (analyse_reading a.new_name a.old_name a.when a.settings _ c.as_str-new.result.now c.as_str-old.result.now
     (option_map (λ z. z.now) c.text_in.result) c.as_str-new.ensures.value c.as_str-old.ensures.value c.text_in.ensures refl ∙ ap reading_of (sym a.is))
     c.analyse.result c.analyse.ensures.refused
 
