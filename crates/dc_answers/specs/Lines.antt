@@ -3,11 +3,10 @@ use Rattle.std.specs.Prelude.{ℕ, ◌++◌, codes, Option, Some, None}
 use Rattle.std.specs.Fmt.{decimal}
 use Rattle.std.specs.String.{string_bytes}
 use Rattle.dc_syntax.specs.declared.tree.Side.{Side}
-use Rattle.dc_syntax.specs.declared.tree.Side.TheVariants as side
 use Rattle.dc_syntax.specs.declared.tree.Count.{Count}
 use Rattle.dc_syntax.specs.declared.tree.Count.TheVariants as count
 use Rattle.dc_entail.specs.declared.answer.Site.{Site}
-use Rattle.dc_entail.specs.declared.answer.Site.TheVariants as site
+use Rattle.dc_entail.specs.Sites.{side_text, site_text}
 use Rattle.dc_parse.specs.declared.fault.Kind.{Kind}
 use Rattle.dc_parse.specs.declared.fault.Kind.TheVariants as k
 use Rattle.dc_lines.specs.Bytes.{Bytes}
@@ -31,11 +30,6 @@ status_of (r.Spent p) = status.pivots_spent
 status_of (r.Rejected c i) = status.rejected
 status_of r.Unwritten = status.write_fault
 status_of r.NoMemory = status.no_memory
-
--- ---- words
-abbrev pub side_text : Side → Bytes
-side_text side.New = codes "new"
-side_text side.Old = codes "old"
 
 abbrev pub text_name : Text → Bytes
 text_name text.New = codes "new"
@@ -67,24 +61,6 @@ kind_text k.DegreeTooHigh = codes "DegreeTooHigh"
 kind_text k.CoefficientRange = codes "CoefficientRange"
 kind_text k.ConditionTooWide = codes "ConditionTooWide"
 kind_text k.NoMemory = codes "NoMemory"
-
--- ---- the site of a problem
-abbrev pub site_text : Site → Bytes
-site_text (site.When c) = codes "when " ++ decimal c
-site_text (site.EntryRow s c n) =
-    side_text s ++ (codes " entry case " ++ (decimal c ++ (codes " row " ++ decimal n)))
-site_text (site.Edge s e) = side_text s ++ (codes " edge " ++ decimal e)
-site_text (site.EdgeRow s e n) =
-    side_text s ++ (codes " edge " ++ (decimal e ++ (codes " row " ++ decimal n)))
-site_text (site.Prune s l n) =
-    side_text s ++ (codes " prune " ++ (decimal l ++ (codes " row " ++ decimal n)))
-site_text (site.KeptEntry s c a) =
-    side_text s ++ (codes " kept entry case " ++ (decimal c ++ (codes " atom " ++ decimal a)))
-site_text (site.KeptEdge s e) = side_text s ++ (codes " kept edge " ++ decimal e)
-site_text (site.KeptAtom s e a) =
-    side_text s ++ (codes " kept edge " ++ (decimal e ++ (codes " atom " ++ decimal a)))
-site_text (site.Exit s) = side_text s ++ codes " exit"
-site_text site.Main = codes "main"
 
 -- ---- where a text is wrong, and what is wrong with it
 abbrev pub line_in : Wrong → ℕ

@@ -1,7 +1,7 @@
 //! The lines of refusals.
 ghost use Rattle.std.specs.Prelude.{◌≡◌, IfOk, MatchOption};
 ghost use Rattle.std.specs.String.{string_bytes};
-ghost use Rattle.dc_answers.specs.Lines.{line_of, site_text, unread_line, bad_line, source_line, large_line, pivot_line, fold_line, spent_line, rejected_line};
+ghost use Rattle.dc_answers.specs.Lines.{line_of, unread_line, bad_line, source_line, large_line, pivot_line, fold_line, spent_line, rejected_line};
 ghost use Rattle.dc_cli.specs.Reports.{IsBuilt};
 
 use crate::words::{count_word, line_and_column, side_word, text_word, usage, wrong_word};
@@ -98,8 +98,6 @@ fn too_large(
 fn past_pivot(alloc: Global, site: Site, pivot: u64) -> Result<String, AllocError>
     ensures { IfOk result (λ text. string_bytes text ≡ pivot_line site pivot) }
 {
-    let site = site_words(alloc, site)?;
-    let site = site.as_str();
     let text = format!(in alloc; "past 128 bits: {site} pivot {pivot}\n")?;
     Ok(text)
 }
@@ -114,8 +112,6 @@ fn past_fold(alloc: Global, clause: u8, index: u64) -> Result<String, AllocError
 fn budget_line(alloc: Global, site: Site) -> Result<String, AllocError>
     ensures { IfOk result (λ text. string_bytes text ≡ spent_line site) }
 {
-    let site = site_words(alloc, site)?;
-    let site = site.as_str();
     let text = format!(in alloc; "pivots spent: {site}\n")?;
     Ok(text)
 }
@@ -125,50 +121,4 @@ fn rejection_line(alloc: Global, clause: u8, index: u64) -> Result<String, Alloc
 {
     let text = format!(in alloc; "rejected: clause {clause} index {index}\n")?;
     Ok(text)
-}
-
-/// The site of a problem, as lines spell it.
-fn site_words(alloc: Global, site: Site) -> Result<String, AllocError>
-    ensures { IfOk result (λ text. string_bytes text ≡ site_text site) }
-{
-    match site {
-        Site::When { case } => format!(in alloc; "when {case}"),
-        Site::EntryRow { side, case, row } => {
-            let side = side_word(side);
-            format!(in alloc; "{side} entry case {case} row {row}")
-        }
-        Site::Edge { side, edge } => {
-            let side = side_word(side);
-            format!(in alloc; "{side} edge {edge}")
-        }
-        Site::EdgeRow { side, edge, row } => {
-            let side = side_word(side);
-            format!(in alloc; "{side} edge {edge} row {row}")
-        }
-        Site::Prune {
-            side,
-            location,
-            row,
-        } => {
-            let side = side_word(side);
-            format!(in alloc; "{side} prune {location} row {row}")
-        }
-        Site::KeptEntry { side, case, atom } => {
-            let side = side_word(side);
-            format!(in alloc; "{side} kept entry case {case} atom {atom}")
-        }
-        Site::KeptEdge { side, edge } => {
-            let side = side_word(side);
-            format!(in alloc; "{side} kept edge {edge}")
-        }
-        Site::KeptAtom { side, edge, atom } => {
-            let side = side_word(side);
-            format!(in alloc; "{side} kept edge {edge} atom {atom}")
-        }
-        Site::Exit { side } => {
-            let side = side_word(side);
-            format!(in alloc; "{side} exit")
-        }
-        Site::Main => String::from_str(alloc, "main"),
-    }
 }

@@ -1,6 +1,7 @@
 //! The fixed words of lines.
 ghost use Rattle.std.specs.Prelude.{◌≡◌};
-ghost use Rattle.dc_answers.specs.Lines.{side_text, text_name, count_text, kind_text, line_in, column_in, wrong_text, usage_text};
+ghost use Rattle.dc_entail.specs.Sites.{side_text};
+ghost use Rattle.dc_answers.specs.Lines.{text_name, count_text, kind_text, line_in, column_in, wrong_text, usage_text};
 
 use dc_answers::{Text, Wrong};
 use dc_parse::Kind;
