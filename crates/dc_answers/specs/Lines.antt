@@ -31,6 +31,7 @@ status_of (r.Rejected c i) = status.rejected
 status_of r.Unwritten = status.write_fault
 status_of r.NoMemory = status.no_memory
 
+-- ---- words
 abbrev pub text_name : Text → Bytes
 text_name text.New = codes "new"
 text_name text.Old = codes "old"
