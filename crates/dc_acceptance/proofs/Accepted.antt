@@ -3,7 +3,6 @@ use Rattle.std.specs.Prelude.{◌≡◌, ℕ, Bool, true, false, ltb, if◌then�
 use Rattle.std.specs.Option.{option_and_then}
 use Rattle.std.specs.List.{AllByRecursion}
 use Rattle.std.proofs.Common.{refl, sym, ◌∙◌, ap, subst, arith, inl, inr}
-use Rattle.dc_math.specs.Members.{each-++}
 use Rattle.dc_math.specs.Rational.{ℚ}
 use Rattle.dc_syntax.specs.declared.tree.Proc.{Proc}
 use Rattle.dc_syntax.specs.declared.tree.Side.{Side}
@@ -12,11 +11,12 @@ use Rattle.dc_syntax.specs.declared.tree.Count.{Count}
 use Rattle.dc_syntax.specs.declared.tree.Count.TheVariants.{Locations, Edges, Rows, Bounds}
 use Rattle.dc_affine.specs.declared.atom.Atom.{Atom}
 use Rattle.dc_affine.specs.Atoms.{IsAtom, IsFullAtom, AllCases}
+use Rattle.dc_affine.proofs.Within.{flat_atoms}
 use Rattle.dc_lp.specs.Tables.{Table}
 use Rattle.dc_program.specs.Programs.{IsProgram}
 use Rattle.dc_system.specs.declared.edges.System.{System}
 use Rattle.dc_system.specs.declared.edges.SystemFault.TheVariants as system
-use Rattle.dc_system.specs.Systems.{system_of, size_fault, locations_of}
+use Rattle.dc_system.specs.Systems.{system_of, size_fault}
 use Rattle.dc_system.specs.Folded.{IsFolded}
 use Rattle.dc_system.specs.Shapes.{IsWellFormed}
 use Rattle.dc_system.proofs.Shape as shape
@@ -56,16 +56,15 @@ use Rattle.dc_check.specs.Answers.{claim_steps, main_fault, IsFirst, FailsAt, Ac
 use Rattle.dc_session.specs.Session.{Input, candidates_for, Part, IsPart, Analysis, pair_of, flags_of, main_of}
 use Rattle.dc_session.specs.Refusals.{excess, of_system, of_rows, of_main, system_excess, rows_excess, early_excess}
 use Rattle.dc_session.specs.Made.{IsSideOf, AreCaseLines, unknowns_in}
-use Rattle.dc_session.proofs.Analyses.{first_none, are_of_greatest}
+use Rattle.dc_session.proofs.Analyses.{first_none, are_of_greatest, system_within}
 use Rattle.dc_session.proofs.Repeated.{made_repeats}
+use Rattle.dc_session.proofs.Stops.{some_none}
 use Rattle.dc_acceptance.specs.Laws.{Makes, MadeHaveSystems, MadeAreNarrow, MadeAreTrue, AcceptedAreTold, FaultsAreFolds}
 use Rattle.dc_acceptance.proofs.Passing.{not_true, Passes, StepsPass, pass_both, steps_both, counted_pass, failure_passes}
 use Rattle.dc_acceptance.proofs.Sides.{IsMadeSide, SidePasses, side_passes}
 use Rattle.dc_acceptance.proofs.Bodies.{shown_at_end, body_passes}
 
 -- ---- limits
-some_none : {A : Type 0} (x : A) (o : Option A) → o ≡ Some x → o ≡ None → ⊥
-some_none x o e f = cc
 
 system_limits : (side : Side) (b d : Bool) (m n : ℕ)
     → option_and_then (of_system side) (if b then Some (system.TooLarge Locations m) else (if d then Some (system.TooLarge Edges n) else None)) ≡ None
@@ -73,9 +72,6 @@ system_limits : (side : Side) (b d : Bool) (m n : ℕ)
 system_limits side true d m n e = absurd (cc)
 system_limits side false true m n e = absurd (cc)
 system_limits side false false m n e = refl
-
-pub system_within : (side : Side) (p : Proc) → system_excess side p ≡ None → size_fault p ≡ None
-system_within side p e = system_limits side (ltb 128 (locations_of p)) _ _ _ e
 
 rows_limits : (side : Side) (b d : Bool) (m n : ℕ)
     → option_and_then (of_rows side) (if b then Some (row.TooLarge Rows m) else (if d then Some (row.TooLarge Bounds n) else None)) ≡ None
@@ -105,13 +101,6 @@ within i e =
     record { new = system_within New i.new x.0; old = system_within Old i.old y.0; new_rows = rows_within New c z.0; old_rows = rows_within Old d w.0 }
 
 -- ---- the atoms of all cases
-full_within : (n : ℕ) (atoms : List Atom) → AllByRecursion (IsFullAtom n) atoms → AllByRecursion (IsAtom n) atoms
-full_within n [] h = tt
-full_within n (a ∷ atoms) h = (h.0.within, full_within n atoms h.1)
-
-flat_within : (n : ℕ) (cases : List (List Atom)) → AllCases (IsFullAtom n) cases → AllByRecursion (IsAtom n) (flat_map (λ case. case) cases)
-flat_within n [] h = tt
-flat_within n (case ∷ cases) h = each-++ (IsAtom n) case (flat_map (λ case. case) cases) (full_within n case h.0) (flat_within n cases h.1)
 
 -- ---- one side
 module _ (i : Input) (p : Proc) (s : System) (program : IsProgram p) (size : size_fault p ≡ None) (folded : IsFolded (system_of p) s) where
@@ -187,10 +176,10 @@ module _ (i : Input) (a : Analysis) (t : Table ℚ) (c : Certificate) (h : Makes
   old_cases = subst (λ n. AllCases (IsFullAtom n) i.cases) h.input.params.0 h.input.condition.atoms
 
   pub new_kind : AreCandidates a.new.vars (candidates_for i i.new)
-  new_kind = side_kind i i.new a.new h.input.new limits.new h.through.analysis.new limits.new_rows (flat_within i.new.params i.cases h.input.condition.atoms)
+  new_kind = side_kind i i.new a.new h.input.new limits.new h.through.analysis.new limits.new_rows (flat_atoms i.new.params i.cases h.input.condition.atoms)
 
   pub old_kind : AreCandidates a.old.vars (candidates_for i i.old)
-  old_kind = side_kind i i.old a.old h.input.old limits.old h.through.analysis.old limits.old_rows (flat_within i.old.params i.cases old_cases)
+  old_kind = side_kind i i.old a.old h.input.old limits.old h.through.analysis.old limits.old_rows (flat_atoms i.old.params i.cases old_cases)
 
   new_params : a.new.params ≡ i.new.params
   new_params = side_params i i.new a.new h.input.new limits.new h.through.analysis.new

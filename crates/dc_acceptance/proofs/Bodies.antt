@@ -6,7 +6,7 @@ use Rattle.std.proofs.Common.{refl, sym, ◌∙◌, ap, subst, arith, inl, inr}
 use Rattle.std.proofs.lemmas.Bool.{cases_lt, lt-ltb, le-ltb}
 use Rattle.dc_math.specs.Rational.{ℚ, ◌*ℚ◌, neg_ℚ, of_ℤ, ◌≤ℚ◌, ◌<ℚ◌, NonNegative, *ℚ_comm, ≤ℚ_antisymm}
 use Rattle.dc_math.specs.RationalRing.{ring, reads, same_form, neg_ℚ-≤ℚ}
-use Rattle.dc_math.specs.Order.{of_ℤ-neg_ℤ}
+use Rattle.dc_math.specs.Order.{of_ℤ-neg_ℤ, *ℚ-neg_ℚ}
 use Rattle.dc_math.specs.Tests.{eq_ℚ, is_positive, eq_ℚ-true, lt_ℚ-true}
 use Rattle.dc_math.specs.Sums.{sum_ℚ, sum_ℚ_same, sum_ℚ-neg_ℚ}
 use Rattle.dc_frac.specs.declared.Frac.{Frac}
@@ -77,11 +77,8 @@ module _ (m : Linear ℤ) (u : ℕ) (h : IsPaired m u) where
     minus_price : (k : ℕ) → k < u → combined (rational m) y (suc (k * 2)) ≡ neg_ℚ (combined (rational m) y (k * 2))
     minus_price k l =
         sum_ℚ_same m.equations (λ i. y i *ℚ of_ℤ (m.coefficient i (suc (k * 2)))) (λ i. neg_ℚ (y i *ℚ of_ℤ (m.coefficient i (k * 2))))
-        (λ i g. ap (λ z. y i *ℚ z) (ap of_ℤ (h.minus i k l) ∙ of_ℤ-neg_ℤ (m.coefficient i (k * 2))) ∙ out (y i) (of_ℤ (m.coefficient i (k * 2))))
+        (λ i g. ap (λ z. y i *ℚ z) (ap of_ℤ (h.minus i k l) ∙ of_ℤ-neg_ℤ (m.coefficient i (k * 2))) ∙ *ℚ-neg_ℚ (y i) (of_ℤ (m.coefficient i (k * 2))))
         ∙ sum_ℚ-neg_ℚ m.equations (λ i. y i *ℚ of_ℤ (m.coefficient i (k * 2)))
-      where
-        out : (a b : ℚ) → a *ℚ neg_ℚ b ≡ neg_ℚ (a *ℚ b)
-        out a b = ring (a ∷ b ∷ []) (λ ρ i j. simp (i, j, reads) (same_form _ _ _ refl))
 
     module _ (cost : ℕ → ℤ) (minus_cost : (k : ℕ) → k < u → cost (suc (k * 2)) ≡ neg_ℤ (cost (k * 2))) (free : (j : ℕ) → u * 2 ≤ j → cost j ≡ pos 0)
         (prices : (j : ℕ) → j < m.columns → combined (rational m) y j ≤ℚ of_ℤ (cost j)) where

@@ -1,5 +1,5 @@
 -- There are at most as many printed atoms at a location as rows.
-use Rattle.std.specs.Prelude.{◌≡◌, ℕ, zero, suc, ◌+◌, ◌<◌, ◌≤◌, Bool, true, false, cond, is_some, List, [], ◌∷◌, filter, length, slice_index_or}
+use Rattle.std.specs.Prelude.{◌≡◌, ℕ, ◌+◌, ◌≤◌, Bool, true, false, is_some, List, [], ◌∷◌, length, slice_index_or}
 use Rattle.std.specs.List.{AllByRecursion, range_with_len}
 use Rattle.std.proofs.Common.{refl, ap, arith, length-append}
 use Rattle.std.proofs.lemmas.List.{length-map}
@@ -10,14 +10,7 @@ use Rattle.dc_rows.specs.declared.kinds.Candidates.{Candidates}
 use Rattle.dc_families.specs.Graphs.{Graph}
 use Rattle.dc_families.specs.Families.{Family, never, kept_rows, least_in, least_atom}
 use Rattle.dc_families.specs.Printed.{Question, Pruned, done, drops, keeps, IsPrinted, ArePrinted}
-
-filter_short : {A : Type 0} (p : A → Bool) (xs : List A) → length (filter p xs) ≤ length xs
-filter_short p [] = omega arith
-filter_short p (x ∷ xs) = by (p x) (filter_short p xs)
-  where
-    by : (b : Bool) → length (filter p xs) ≤ length xs → length (cond b (x ∷ filter p xs) (filter p xs)) ≤ suc (length xs)
-    by true h = omega arith
-    by false h = omega arith
+use Rattle.dc_system.proofs.Filters.{length-filter}
 
 module _ (c : Candidates) (J : Family) (l : ℕ) where
   left_few : {rows back left : List ℕ} {asked : List Question} → Pruned c J l rows back asked left → length left ≤ length rows + length back
@@ -28,7 +21,7 @@ module _ (c : Candidates) (J : Family) (l : ℕ) where
       let q = left_few rest in let s = ap length e in let t = length-append f (r ∷ []) in omega arith
 
   rows_few : length (kept_rows c J l) ≤ length c.rows
-  rows_few = let q = filter_short (λ r. is_some (least_in c J l r)) (range_with_len 0 (length c.rows)) in let s = length-range_with_len 0 (length c.rows) in omega arith
+  rows_few = let q = length-filter (λ r. is_some (least_in c J l r)) (range_with_len 0 (length c.rows)) in let s = length-range_with_len 0 (length c.rows) in omega arith
 
   printed_few : (n k : ℕ) (printed : List Atom) (asked : List Question) → 1 ≤ k → length c.rows ≤ k → IsPrinted c J l n printed asked → length printed ≤ k
   printed_few n k printed asked one few h = by (J l (never n)) refl

@@ -4,6 +4,7 @@ use Rattle.std.specs.Option.{option_and_then}
 use Rattle.std.proofs.Common.{refl, sym, ◌∙◌, ap, subst, arith, inl, inr}
 use Rattle.std.proofs.lemmas.Bool.{cases_lt, and_parts, eqb-true}
 use Rattle.std.proofs.lemmas.List.FromFn.{length-map-range_with_len, get_or-map-range_with_len}
+use Rattle.std.proofs.lemmas.Option.{same_Some}
 use Rattle.dc_math.specs.Rational.{ℚ, of_ℤ, ◌+ℚ◌, ◌*ℚ◌, neg_ℚ, *ℚ_comm, zero-*ℚ}
 use Rattle.dc_math.specs.RationalRing.{ring, reads, read_nat, same_form}
 use Rattle.dc_math.specs.RationalField.{rationals}
@@ -123,17 +124,11 @@ module _ (P : ℚ → Type 0) (zero_has : P (of_ℤ (pos 0))) (fitting : (x : �
   -- ---- a run
   module _ (m : Linear ℤ) (started : AreAll P (tables.start ℚ rationals (rational m))) where
     after_have : (s : State ℚ) (d : Due) (u : State ℚ) → after ℚ rationals s.table d ≡ Some u → AreAll P s.table → change_fits s.table d ≡ true → AreAll P u.table
-    after_have s (Pivot phase r j) u e h f = subst (λ (x : State ℚ). AreAll P x.table) (same e) (pivoted_have s.table r j h f)
-      where
-        same : {x y : State ℚ} → Some x ≡ Some y → x ≡ y
-        same q = cc
+    after_have s (Pivot phase r j) u e h f = subst (λ (x : State ℚ). AreAll P x.table) (same_Some _ _ e) (pivoted_have s.table r j h f)
     after_have s (End x) u e h f = absurd cc
 
     pub run_have : (n : ℕ) (s : State ℚ) → run ℚ rationals (rational m) n ≡ Some s → AllFit (rational m) n → AreAll P s.table
-    run_have zero s e f = subst (λ (x : State ℚ). AreAll P x.table) (same e) started
-      where
-        same : {x y : State ℚ} → Some x ≡ Some y → x ≡ y
-        same q = cc
+    run_have zero s e f = subst (λ (x : State ℚ). AreAll P x.table) (same_Some _ _ e) started
     run_have (suc n) s e f = by (run ℚ rationals (rational m) n) refl e (λ u q. run_have n u q (λ i y l. f i y (omega arith)))
       where
         by : (o : Option (State ℚ)) → run ℚ rationals (rational m) n ≡ o → option_and_then (λ x. after ℚ rationals x.table (due_at ℚ rationals x)) o ≡ Some s

@@ -2,7 +2,7 @@
 use Rattle.std.specs.Prelude.{◌≡◌, ℕ, zero, suc, ◌+◌, ◌*◌, ◌-◌, ◌≤◌, ◌<◌, if◌then◌else◌, [], ◌∷◌, ℤ, pos, neg_ℤ}
 use Rattle.std.proofs.Common.{refl, sym, ◌∙◌, ap, ap₂, arith}
 use Rattle.std.proofs.lemmas.Bool.{lt-ltb, le-ltb}
-use Rattle.dc_math.specs.Rational.{ℚ, ◌+ℚ◌, ◌*ℚ◌, ◌-ℚ◌, neg_ℚ, of_ℤ, zero-*ℚ, zero-+ℚ}
+use Rattle.dc_math.specs.Rational.{ℚ, ◌+ℚ◌, ◌*ℚ◌, ◌-ℚ◌, neg_ℚ, of_ℤ, zero-*ℚ, zero-+ℚ, +ℚ-zero}
 use Rattle.dc_math.specs.RationalRing.{ring, reads, read_nat, same_form}
 use Rattle.dc_math.specs.Order.{of_ℤ-neg_ℤ}
 use Rattle.dc_math.specs.Sums.{sum_ℚ, sum_ℚ_none, sum_ℚ_first, sum_ℚ_same, sum_ℚ_zero}
@@ -99,7 +99,4 @@ module _ (m : Linear ℤ) (u : ℕ) (h : IsPaired m u) where
         ∙ ap₂ ◌+ℚ◌ (cost_sum u (at unknown) h.some (omega arith))
         (sum_ℚ_zero (multipliers m u) (λ k. of_ℤ (m.cost (behind u k)) *ℚ at lambda k)
         (λ k l. ap (λ z. of_ℤ z *ℚ at lambda k) (h.multipliers (behind u k) (let e = behind-is u k in omega arith)) ∙ zero-*ℚ (at lambda k)))
-        ∙ no_more (at unknown 0)
-      where
-        no_more : (y : ℚ) → y +ℚ of_ℤ (pos 0) ≡ y
-        no_more y = ring (y ∷ []) (λ ρ i. simp (i, read_nat ρ, reads) (same_form _ _ _ refl))
+        ∙ +ℚ-zero (at unknown 0)

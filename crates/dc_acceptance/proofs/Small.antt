@@ -2,15 +2,14 @@
 use Rattle.std.specs.Prelude.{◌≡◌, ℕ, zero, suc, ◌+◌, ◌==◌, Bool, true, false, cond, if◌then◌else◌, nat_lt, ℤ, pos, neg_ℤ, ◌+ℤ◌, unsigned_abs, Some}
 use Rattle.std.proofs.Common.{refl, sym, ◌∙◌, ap, ap₂, subst, arith}
 use Rattle.std.proofs.lemmas.Bool.{and_parts}
-use Rattle.std.proofs.lemmas.Int.{ints}
-use Rattle.std.proofs.lemmas.Grind.{common_steps}
-use Rattle.dc_math.specs.Gcd.{gcd}
-use Rattle.dc_math.specs.Rational.{ℚ, Fraction, fraction_of, fraction_neg, of_ℤ, of_ℤ_is, of_ℤ-+ℤ, ratio-neg, ◌+ℚ◌, neg_ℚ, le_ℚ}
+use Rattle.dc_math.specs.Rational.{ℚ, Fraction, fraction_of, of_ℤ, of_ℤ_is, of_ℤ-+ℤ, ◌+ℚ◌, neg_ℚ, le_ℚ}
 use Rattle.dc_math.specs.RationalField.{rationals}
 use Rattle.dc_math.specs.Order.{of_ℤ-neg_ℤ}
-use Rattle.dc_math.specs.Lowest.{lowest, ratio-lowest, lowest_reduced, lowest-of_reduced}
+use Rattle.dc_math.specs.Lowest.{lowest, lowest-of_reduced}
 use Rattle.dc_frac.specs.Fits.{IsSmall, is_small, fits}
 use Rattle.dc_frac.proofs.ShortWays.{gcd_nat_one}
+use Rattle.dc_frac.proofs.FitLaws.{true_small}
+use Rattle.dc_frac.proofs.ZeroSums.{lowest-neg}
 use Rattle.dc_lp.specs.Linear.{Linear}
 use Rattle.dc_lp.specs.Tables as tables
 use Rattle.dc_lp.specs.Tables.{Table, made}
@@ -37,13 +36,6 @@ whole_sum : (x y : ℚ) → IsWhole x → IsWhole y → IsWhole (x +ℚ y)
 whole_sum x y (z, e) (w, f) = (z +ℤ w, ap₂ ◌+ℚ◌ e f ∙ sym (of_ℤ-+ℤ z w))
 
 -- ---- fine numbers
-pub neg_size : (z : ℤ) → unsigned_abs (neg_ℤ z) ≡ unsigned_abs z
-neg_size z = omega (arith, ints)
-
-pub lowest-neg : (x : ℚ) → lowest (neg_ℚ x) ≡ fraction_neg (lowest x)
-lowest-neg x =
-    ap (λ y. lowest (neg_ℚ y)) (sym (ratio-lowest x)) ∙ ap lowest (ratio-neg (lowest x))
-    ∙ lowest-of_reduced (fraction_neg (lowest x)) (ap (λ n. gcd n (unsigned_abs (lowest x).den)) (neg_size (lowest x).num) ∙ lowest_reduced x)
 
 pub neg_fine : (x : ℚ) → IsFine x → IsFine (neg_ℚ x)
 neg_fine x h = subst (λ (f : Fraction). IsSmall f.den) (sym (lowest-neg x)) h
@@ -56,10 +48,7 @@ one_fine = whole_fine (of_ℤ (pos 1)) (pos 1, refl)
 
 fits_fine : (x : ℚ) → fits x ≡ true → IsFine x
 unfolding fits
-fits_fine x h = small (lowest x).den (and_parts (is_small (lowest x).num) (is_small (lowest x).den) h).1
-  where
-    small : (z : ℤ) → is_small z ≡ true → IsSmall z
-    small z e = grind (arith, common_steps)
+fits_fine x h = true_small (lowest x).den (and_parts (is_small (lowest x).num) (is_small (lowest x).den) h).1
 
 -- ---- tables
 abbrev pub AreFine : Table ℚ → Type 0

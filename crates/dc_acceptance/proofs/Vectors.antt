@@ -5,7 +5,7 @@ use Rattle.std.proofs.Common.{refl, sym, ◌∙◌, ap, subst, arith, inl, inr}
 use Rattle.dc_math.specs.Rational.{ℚ, Fraction, of_ℤ, ◌-ℚ◌, neg_ℚ, le_ℚ}
 use Rattle.dc_math.specs.RationalRing.{ring, reads, read_nat, same_form}
 use Rattle.dc_math.specs.RationalField.{rationals}
-use Rattle.dc_math.specs.Order.{of_ℤ-neg_ℤ}
+use Rattle.dc_math.specs.Order.{of_ℤ-neg_ℤ, zero-minus}
 use Rattle.dc_math.specs.Tests.{is_zero}
 use Rattle.dc_frac.specs.declared.Frac.{Frac}
 use Rattle.dc_frac.specs.Fits.{IsSmall}
@@ -34,7 +34,7 @@ use Rattle.dc_points.specs.Stated.{rational, empty_problem, sup_problem}
 use Rattle.dc_clauses.specs.Mains.{multipliers}
 use Rattle.dc_mainlines.specs.Paired.{IsPaired}
 use Rattle.dc_invariant.specs.Shown as shown
-use Rattle.dc_invariant.specs.Shown.{IsSolutionOf, IsRefutationOf, IsKeep, IsLine}
+use Rattle.dc_invariant.specs.Shown.{IsSolutionOf, IsRefutationOf, IsLine}
 use Rattle.dc_session.specs.Made.{AreItemsOf, unknown_in, multiplier_in, IsBodyOf}
 use Rattle.dc_acceptance.proofs.Small.{IsFine, AreFine, zero_fine, one_fine, neg_fine, run_fine}
 use Rattle.dc_acceptance.proofs.Items.{solution_items, refutation_items}
@@ -118,10 +118,7 @@ module _ (hyps : List Atom) (n budget : ℕ) (few : length hyps ≤ 8192) where
 
 -- ---- the body
 difference_fine : (x y : ℚ) → (x ≡ of_ℤ (pos 0)) ⊎ (y ≡ of_ℤ (pos 0)) → IsFine x → IsFine y → IsFine (x -ℚ y)
-difference_fine x y (inl e) h k = subst IsFine (sym (ap (λ z. z -ℚ y) e ∙ from_none y)) (neg_fine y k)
-  where
-    from_none : (y : ℚ) → of_ℤ (pos 0) -ℚ y ≡ neg_ℚ y
-    from_none y = ring (y ∷ []) (λ ρ i. simp (i, read_nat ρ, reads) (same_form _ _ _ refl))
+difference_fine x y (inl e) h k = subst IsFine (sym (ap (λ z. z -ℚ y) e ∙ zero-minus y)) (neg_fine y k)
 difference_fine x y (inr e) h k = subst IsFine (sym (ap (λ z. x -ℚ z) e ∙ minus_none x)) h
   where
     minus_none : (x : ℚ) → x -ℚ of_ℤ (pos 0) ≡ x

@@ -6,6 +6,7 @@ use Rattle.std.specs.Option.{option_or}
 use Rattle.std.proofs.Common.{sym, ◌∙◌, ap, ap₂, subst, arith, ltb-false}
 use Rattle.std.proofs.lemmas.Int.{ints}
 use Rattle.std.proofs.lemmas.List.{map-append}
+use Rattle.std.proofs.lemmas.Bool.{and_parts}
 use Rattle.dc_math.specs.Members.{each-++}
 use Rattle.dc_syntax.specs.declared.tree.Expr.{Expr, Num, roll-Expr, fold-roll-Expr}
 use Rattle.dc_syntax.specs.declared.tree.Expr.TheOpen as F
@@ -32,7 +33,7 @@ use Rattle.dc_affine.specs.Table.{Fact, fact, some_of, after, crossed, falsity, 
 use Rattle.dc_affine.specs.Atoms.{some_hold, IsFullAtom, AllCases, gap_of, at_least, atom_of, conjunctions_of, gap_fault, comparison_step, comparison_fault, cond_below_step, cond_is_below}
 use Rattle.dc_affine.specs.Gaps.{signed_coef, gap_atom, gap_cases, combined}
 use Rattle.dc_affine.specs.Laws.{told}
-use Rattle.dc_affine.proofs.FormLaws.{form_proper, formed-Num, and_both}
+use Rattle.dc_affine.proofs.FormLaws.{form_proper, formed-Num, none_parts}
 use Rattle.dc_affine.proofs.TableLaws.{joined, facts_tell, facts-Cmp, facts-Not, facts-And, facts-Or}
 use Rattle.dc_affine.proofs.Fits.{coef_fits}
 use Rattle.dc_affine.proofs.FactAtoms.{gap_canonical, IsAffineFact, all_say, all_full}
@@ -142,7 +143,7 @@ relation_affine n a Gt b p q d f = ((affine_kept n a b 1 p q d f (omega arith), 
 relation_affine n a Eq b p q d f = ((affine_turned n a b 0 p q d f (omega arith), (affine_kept n a b 0 p q d f (omega arith), tt)), tt)
 relation_affine n a Ne b p q d f = ((affine_turned n a b 1 p q d f (omega arith), tt), ((affine_kept n a b 1 p q d f (omega arith), tt), tt))
 
-below-Num : (n k : ℕ) → is_below n (Num k) ≡ true
+pub below-Num : (n k : ℕ) → is_below n (Num k) ≡ true
 unfolding roll-Expr denote.Hole.Carrier.roll
 below-Num n k = fold-roll-Expr Bool (below_step n) (F.Num k)
 
@@ -162,9 +163,6 @@ falsity_affine n = (
 )
 
 -- ---- a condition without faults of comparisons has affine facts
-none_parts : (o p : Option FormFault) → option_or o p ≡ None → (o ≡ None) × (p ≡ None)
-none_parts None p e = (refl, e)
-none_parts (Some f) p e = cc
 
 gap_affine : (p : TermList) → gap_fault p ≡ None → (degree_of p ≤ 1) × (coefs_fit p ≡ true)
 gap_affine p e = by (ltb 1 (degree_of p)) refl (coefs_fit p) refl e
@@ -182,19 +180,19 @@ affine_layer : (n : ℕ) (L : Cond-F Cond) → EachCond (OfAffine n) L → cond_
 affine_layer n G.True h b e = ((tt, tt), falsity_affine n)
 affine_layer n G.False h b e = (falsity_affine n, (tt, tt))
 affine_layer n (G.Cmp x r y) h b e =
-    let p = and_both (is_below n x) (is_below n y) b in
+    let p = and_parts (is_below n x) (is_below n y) b in
     let g = gap_affine (gap_of n x y) (none_parts (fault_of n y) (gap_fault (gap_of n x y)) (none_parts (fault_of n x) (option_or (fault_of n y) (gap_fault (gap_of n x y))) e).1).1 in
     let f : (u : Exponents) → unsigned_abs (coef (gap_of n x y) u) ≤ most = λ u. coef_fits (gap_of n x y) u (gap_canonical n x y) g.1 in
     (relation_affine n x r y p.0 p.1 g.0 f, relation_affine n x (opposite r) y p.0 p.1 g.0 f)
 affine_layer n (G.Not c) h b e = let q = h b e in (q.1, q.0)
 affine_layer n (G.And c d) h b e =
-    let p = and_both (cond_is_below n c) (cond_is_below n d) b in
+    let p = and_parts (cond_is_below n c) (cond_is_below n d) b in
     let o = none_parts (comparison_fault n c) (comparison_fault n d) e in
     let q = h.0 p.0 o.0 in
     let r = h.1 p.1 o.1 in
     (each_crossed n (facts_of c false) (facts_of d false) q.0 r.0, each-++ (AllByRecursion (IsAffineFact n)) (facts_of c true) (facts_of d true) q.1 r.1)
 affine_layer n (G.Or c d) h b e =
-    let p = and_both (cond_is_below n c) (cond_is_below n d) b in
+    let p = and_parts (cond_is_below n c) (cond_is_below n d) b in
     let o = none_parts (comparison_fault n c) (comparison_fault n d) e in
     let q = h.0 p.0 o.0 in
     let r = h.1 p.1 o.1 in

@@ -1,7 +1,7 @@
 -- Coefficients within bounds: by a scan of the terms, of one monomial, and negated.
 use Rattle.std.specs.Prelude.{◌≡◌, ◌+◌, ◌≤◌, Bool, true, false, cond, leb, [], ◌∷◌, ℤ, pos, neg_ℤ, ◌+ℤ◌, ◌-ℤ◌, unsigned_abs, refl}
 use Rattle.std.proofs.Common.{sym, ◌∙◌, ap, subst, arith, SFits}
-use Rattle.std.proofs.lemmas.Bool.{leb-true}
+use Rattle.std.proofs.lemmas.Bool.{leb-true, and_parts}
 use Rattle.std.specs.Int.{w64, w128}
 use Rattle.std.proofs.lemmas.Int.{ints, fits_signed_from_abs}
 use Rattle.dc_poly.specs.Terms.{Exponents, TermList, same_mono, coef, Canonical, weight, largest}
@@ -10,12 +10,11 @@ use Rattle.dc_poly.specs.Terms.{Ahead}
 use Rattle.dc_poly.specs.NormalForm.{most, coefs_fit}
 use Rattle.dc_affine.specs.Atoms.{most_constant}
 use Rattle.dc_affine.specs.Gaps.{signed}
-use Rattle.dc_affine.proofs.FormLaws.{and_both}
 
 -- the coefficient of any monomial
 pub coef_fits : (p : TermList) (m : Exponents) → Canonical p → coefs_fit p ≡ true → unsigned_abs (coef p m) ≤ most
 coef_fits [] m k h = omega arith
-coef_fits (t ∷ p) m k h = by (and_both (leb (unsigned_abs t.coef) most) (coefs_fit p) h) (coef_fits p m k.2) (same_mono t.mono m) refl
+coef_fits (t ∷ p) m k h = by (and_parts (leb (unsigned_abs t.coef) most) (coefs_fit p) h) (coef_fits p m k.2) (same_mono t.mono m) refl
   where
     by : (leb (unsigned_abs t.coef) most ≡ true) × (coefs_fit p ≡ true) → (coefs_fit p ≡ true → unsigned_abs (coef p m) ≤ most) → (b : Bool) → same_mono t.mono m ≡ b → unsigned_abs (cond b t.coef (pos 0) +ℤ coef p m) ≤ most
     by q r true e =

@@ -1,10 +1,11 @@
 -- The form of each expression and its first fault by the operands; its value; that it is canonical and padded.
-use Rattle.std.specs.Prelude.{◌≡◌, ℕ, ◌<◌, Bool, true, false, ◌&&◌, ltb, T, ℤ, pos, neg_ℤ, ◌+ℤ◌, ◌-ℤ◌, ◌*ℤ◌, None, refl}
+use Rattle.std.specs.Prelude.{◌≡◌, Some, ℕ, ◌<◌, Bool, true, ltb, T, ℤ, pos, neg_ℤ, ◌+ℤ◌, ◌-ℤ◌, ◌*ℤ◌, None, refl}
 use Rattle.std.specs.declared.option.Option.{Option}
 use Rattle.std.specs.Option.{option_or}
 use Rattle.std.proofs.Common.{sym, ◌∙◌, ap, ap₂, subst, arith}
 use Rattle.std.proofs.Math.Dec.{ltb→lt}
 use Rattle.std.proofs.lemmas.Int.{ints}
+use Rattle.std.proofs.lemmas.Bool.{and_parts}
 use Rattle.dc_syntax.specs.declared.tree.Expr.{Expr, Num, Var, Neg, Add, Sub, Mul, Expr-F, roll-Expr, map-Expr, fold-roll-Expr}
 use Rattle.dc_syntax.specs.declared.tree.Expr.TheOpen as F
 use Rattle.dc_syntax.specs.Value as tree
@@ -66,6 +67,11 @@ form-Sub n a b = ap (of_formed n) (formed-Sub n a b)
 pub form-Mul : (n : ℕ) (a b : Expr) → form_of n (Mul a b) ≡ product_of (form_of n a) (form_of n b)
 form-Mul n a b = ap (of_formed n) (formed-Mul n a b)
 
+-- ---- no fault
+pub none_parts : (o p : Option FormFault) → option_or o p ≡ None → (o ≡ None) × (p ≡ None)
+none_parts None p e = (refl, e)
+none_parts (Some f) p e = cc
+
 -- ---- the first faults: `by` reads a fault off where the form is known
 by : (f : Formed) (o : Option FormFault) (p : TermList) → f ≡ judged o p → f.fault ≡ option_or o (own_fault f.terms)
 by f o p e = ap (λ g. g.fault) e ∙ ap (λ g. option_or o (own_fault g.terms)) (sym e)
@@ -89,9 +95,6 @@ pub fault-Mul : (n : ℕ) (a b : Expr) → fault_of n (Mul a b) ≡ option_or (o
 fault-Mul n a b = by (formed n (Mul a b)) (option_or (fault_of n a) (fault_of n b)) (times (formed n a).terms (formed n b).terms) (formed-Mul n a b)
 
 -- ---- values
-pub and_both : (a b : Bool) → (a && b) ≡ true → (a ≡ true) × (b ≡ true)
-and_both true b h = (refl, h)
-and_both false b h = cc
 
 abbrev HasValue : ℕ → Expr → Type 0
 HasValue n e = is_below n e ≡ true → (s : State) → value (formed n e).terms s ≡ tree.value e s
@@ -104,14 +107,14 @@ value_layer : (n : ℕ) (L : Expr-F Expr) → EachExpr (HasValue n) L → below_
 value_layer n (F.Num k) h b s = value-constant (pos k) n s
 value_layer n (F.Var k) h b s = value-variable k n s (lt_from k n b)
 value_layer n (F.Neg a) h b s = value-negated (formed n a).terms s ∙ ap neg_ℤ (h b s)
-value_layer n (F.Add x y) h b s = let p = and_both (is_below n x) (is_below n y) b in value-plus (formed n x).terms (formed n y).terms s ∙ ap₂ ◌+ℤ◌ (h.0 p.0 s) (h.1 p.1 s)
+value_layer n (F.Add x y) h b s = let p = and_parts (is_below n x) (is_below n y) b in value-plus (formed n x).terms (formed n y).terms s ∙ ap₂ ◌+ℤ◌ (h.0 p.0 s) (h.1 p.1 s)
 value_layer n (F.Sub x y) h b s =
-    let p = and_both (is_below n x) (is_below n y) b in
+    let p = and_parts (is_below n x) (is_below n y) b in
     value-plus (formed n x).terms (negated (formed n y).terms) s ∙ ap₂ ◌+ℤ◌ (h.0 p.0 s) (value-negated (formed n y).terms s ∙ ap neg_ℤ (h.1 p.1 s)) ∙ minus (tree.value x s) (tree.value y s)
   where
     minus : (u v : ℤ) → u +ℤ neg_ℤ v ≡ u -ℤ v
     minus u v = omega (arith, ints)
-value_layer n (F.Mul x y) h b s = let p = and_both (is_below n x) (is_below n y) b in value-times (formed n x).terms (formed n y).terms s ∙ ap₂ ◌*ℤ◌ (h.0 p.0 s) (h.1 p.1 s)
+value_layer n (F.Mul x y) h b s = let p = and_parts (is_below n x) (is_below n y) b in value-times (formed n x).terms (formed n y).terms s ∙ ap₂ ◌*ℤ◌ (h.0 p.0 s) (h.1 p.1 s)
 
 pub form_value : (n : ℕ) (e : Expr) → HasValue n e
 form_value n e = Expr-induction (HasValue n) (λ L h b s.

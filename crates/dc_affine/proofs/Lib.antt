@@ -7,4 +7,5 @@ pub mod Signed
 pub mod FactAtoms
 pub mod CaseLaws
 pub mod Widths
+pub mod Within
 pub mod Crossing

@@ -2,14 +2,13 @@
 use Rattle.std.specs.Prelude.{◌≡◌, ℕ, zero, suc, ◌+◌, ◌-◌, ◌*◌, ◌^◌, ◌≤◌, ◌<◌, true, leb, [], ◌∷◌, length, unsigned_abs}
 use Rattle.std.proofs.Common.{sym, ap, subst, arith, inl, inr}
 use Rattle.std.proofs.Math.Nat.{pow-zero, pow-succ'}
-use Rattle.std.proofs.lemmas.Bool.{leb-true}
+use Rattle.std.proofs.lemmas.Bool.{leb-true, and_parts}
 use Rattle.dc_poly.specs.Terms.{Exponents, TermList, degree, degree_of, Greater, Before, lower, level, Ahead, Canonical, Places, weight, Polynomial, IsPolynomial}
 use Rattle.dc_poly.specs.Sums.{negation_of}
 use Rattle.dc_poly.specs.Conditions.{CanAdd, CanMul}
 use Rattle.dc_poly.proofs.Sizes.{mul_both, power_more, weight-negated}
 use Rattle.dc_poly.proofs.Degrees.{degree-times}
 use Rattle.dc_poly.specs.NormalForm.{most, coefs_fit, IsNormalForm}
-use Rattle.dc_affine.proofs.FormLaws.{and_both}
 
 -- exponents of at most 2 as the digits of a number
 abbrev digits : ℕ → Exponents → ℕ
@@ -62,7 +61,7 @@ below_all n (t ∷ p) b =
 weight_below : (n b : ℕ) (p : TermList) → Canonical p → Places n p → degree_of p ≤ 2 → coefs_fit p ≡ true → Below n b p → weight p ≤ most * b
 weight_below n b [] c j d f h = omega arith
 weight_below n b (t ∷ p) c j d f h =
-    let q = and_both (leb (unsigned_abs t.coef) most) (coefs_fit p) f in
+    let q = and_parts (leb (unsigned_abs t.coef) most) (coefs_fit p) f in
     let a = leb-true (unsigned_abs t.coef) most q.0 in
     let r = weight_below n (rank n t.mono) p c.2 j.1 (omega arith) q.1 (below_ahead n t.mono p j.0 (omega arith) j.1 (omega arith) c.1) in
     step (unsigned_abs t.coef) (weight p) (rank n t.mono) b a r h.0

@@ -2,6 +2,8 @@
 use Rattle.std.specs.Prelude.{◌≡◌, List, [], ◌∷◌, ◌++◌, Bool, true, false, not, ◌&&◌, ◌||◌, if◌then◌else◌, T, ℤ, pos, ◌-ℤ◌, ◌≤ℤ◌, ◌<ℤ◌, int_le, int_lt, refl}
 use Rattle.std.proofs.Common.{sym, ◌∙◌, ap, ap₂, subst, arith}
 use Rattle.std.proofs.lemmas.Int.{ints}
+use Rattle.std.specs.Cmp.{both_ways}
+use Rattle.std.proofs.Math.Bool.{and_assoc, and-false}
 use lib.Signed.{le_z_yes, lt_z_yes, lt_z_no}
 use Rattle.dc_syntax.specs.declared.tree.Expr.{Expr}
 use Rattle.dc_syntax.specs.declared.tree.Rel.{Rel}
@@ -14,18 +16,10 @@ use Rattle.dc_syntax.proofs.Inductions.{Cond-induction}
 use Rattle.dc_syntax.proofs.Parts.{value-Num}
 use Rattle.dc_affine.specs.Table.{Fact, fact, fact_true, all_of, some_of, after, crossed, falsity, relation, opposite, facts_of, facts_step}
 use Rattle.dc_affine.specs.Laws.{told}
+use Rattle.dc_math.specs.Tests.{to_true}
 
 abbrev Conj : Type 0
 Conj = List Fact
-
-so : (b : Bool) → T b → b ≡ true
-so true h = refl
-so false h = absurd h
-
-same_tests : (b c : Bool) → (b ≡ true → c ≡ true) → (c ≡ true → b ≡ true) → b ≡ c
-same_tests true c f g = sym (f refl)
-same_tests false true f g = g refl
-same_tests false false f g = refl
 
 is_true : {b : Bool} → b ≡ true → T b
 is_true e = subst T (sym e) tt
@@ -37,17 +31,17 @@ lt_of : (a b : ℤ) → int_lt a b ≡ true → a <ℤ b
 lt_of a b e = lt_z_yes (is_true e)
 
 pub of_le : (a b : ℤ) → a ≤ℤ b → int_le a b ≡ true
-of_le a b h = so (int_le a b) h.le
+of_le a b h = to_true (int_le a b) h.le
 
 of_lt : (a b : ℤ) → a <ℤ b → int_lt a b ≡ true
-of_lt a b h = so (int_lt a b) h.lt
+of_lt a b h = to_true (int_lt a b) h.lt
 
 not-not : (b : Bool) → not (not b) ≡ b
 not-not true = refl
 not-not false = refl
 
 not-int_lt : (a b : ℤ) → not (int_lt a b) ≡ int_le b a
-not-int_lt a b = same_tests _ _ (λ e. of_le b a (lt_z_no (is_true e))) (λ e. no (int_lt a b) refl (le_of b a e))
+not-int_lt a b = both_ways _ _ (λ e. of_le b a (lt_z_no (is_true e))) (λ e. no (int_lt a b) refl (le_of b a e))
   where
     no : (t : Bool) → int_lt a b ≡ t → b ≤ℤ a → not t ≡ true
     no true e h = let k : a <ℤ b = lt_of a b e in absurd (omega (arith, ints))
@@ -57,10 +51,10 @@ not-int_le : (a b : ℤ) → not (int_le a b) ≡ int_lt b a
 not-int_le a b = ap not (sym (not-int_lt b a)) ∙ not-not (int_lt b a)
 
 gap_le : (u v : ℤ) → int_le (pos 0) (v -ℤ u -ℤ pos 0) ≡ int_le u v
-gap_le u v = same_tests _ _ (λ e. let h : pos 0 ≤ℤ (v -ℤ u -ℤ pos 0) = le_of _ _ e in of_le u v (omega (arith, ints))) (λ e. let h : u ≤ℤ v = le_of _ _ e in of_le (pos 0) (v -ℤ u -ℤ pos 0) (omega (arith, ints)))
+gap_le u v = both_ways _ _ (λ e. let h : pos 0 ≤ℤ (v -ℤ u -ℤ pos 0) = le_of _ _ e in of_le u v (omega (arith, ints))) (λ e. let h : u ≤ℤ v = le_of _ _ e in of_le (pos 0) (v -ℤ u -ℤ pos 0) (omega (arith, ints)))
 
 gap_lt : (u v : ℤ) → int_le (pos 0) (v -ℤ u -ℤ pos 1) ≡ int_lt u v
-gap_lt u v = same_tests _ _ (λ e. let h : pos 0 ≤ℤ (v -ℤ u -ℤ pos 1) = le_of _ _ e in of_lt u v (omega (arith, ints))) (λ e. let h : u <ℤ v = lt_of _ _ e in of_le (pos 0) (v -ℤ u -ℤ pos 1) (omega (arith, ints)))
+gap_lt u v = both_ways _ _ (λ e. let h : pos 0 ≤ℤ (v -ℤ u -ℤ pos 1) = le_of _ _ e in of_lt u v (omega (arith, ints))) (λ e. let h : u <ℤ v = lt_of _ _ e in of_le (pos 0) (v -ℤ u -ℤ pos 1) (omega (arith, ints)))
 
 single : (b : Bool) → ((b && true) || false) ≡ b
 single true = refl
@@ -102,10 +96,6 @@ or_assoc : (a b c : Bool) → ((a || b) || c) ≡ (a || (b || c))
 or_assoc true b c = refl
 or_assoc false b c = refl
 
-and_assoc : (a b c : Bool) → ((a && b) && c) ≡ (a && (b && c))
-and_assoc true b c = refl
-and_assoc false b c = refl
-
 and-or : (a b c : Bool) → (a && (b || c)) ≡ ((a && b) || (a && c))
 and-or true b c = refl
 and-or false b c = refl
@@ -116,10 +106,6 @@ or-and true true false = refl
 or-and true false true = refl
 or-and true false false = refl
 or-and false b c = refl
-
-and-false : (a : Bool) → (a && false) ≡ false
-and-false true = refl
-and-false false = refl
 
 all_of-++ : (f g : Conj) (s : State) → all_of (f ++ g) s ≡ (all_of f s && all_of g s)
 all_of-++ [] g s = refl

@@ -1,6 +1,5 @@
 -- A check is refused for one reason, or accepts.
-use Rattle.std.proofs.Common.{◌≡◌, ◌≢◌, refl, sym, ◌∙◌, ap, subst, inl, inr, arith, ℕ, false, List, [], ◌∷◌, Option, Some, None}
-use Rattle.std.specs.Prelude.{cond}
+use Rattle.std.proofs.Common.{◌≡◌, ◌≢◌, refl, sym, ap, subst, inl, inr, ℕ, false, List, Option, Some, None}
 use Rattle.dc_syntax.specs.declared.tree.Proc.{Proc}
 use Rattle.dc_syntax.specs.declared.tree.Side.{Side}
 use Rattle.dc_syntax.specs.declared.tree.Side.TheVariants.{New, Old}
@@ -9,36 +8,19 @@ use Rattle.dc_affine.specs.declared.atom.Atom.{Atom}
 use Rattle.dc_system.specs.declared.edges.System.{System}
 use Rattle.dc_system.specs.declared.edges.SystemFault.{SystemFault}
 use Rattle.dc_system.specs.declared.edges.SystemFault.TheVariants as system
-use Rattle.dc_system.specs.Systems.{system_of, size_fault}
-use Rattle.dc_system.proofs.OneFold.{one_folded}
+use Rattle.dc_system.specs.Systems.{size_fault}
 use Rattle.dc_cert.specs.declared.certificate.Certificate.{Certificate}
 use Rattle.dc_cert.specs.declared.certificate.Claim.{Claim}
 use Rattle.dc_match.specs.declared.fault.MatchFault.{MatchFault}
 use Rattle.dc_match.specs.declared.fault.MatchFault.TheVariants as main
 use Rattle.dc_clauses.specs.declared.step.Step.{Step}
-use Rattle.dc_clauses.specs.Steps.{Test, is_true, step, AllHold, first_failure}
+use Rattle.dc_clauses.specs.Steps.{Test, step, AllHold, first_failure}
 use Rattle.dc_clauses.specs.Sides.{family_steps}
 use Rattle.dc_check.specs.declared.fault.CheckFault.{CheckFault}
 use Rattle.dc_check.specs.declared.fault.CheckFault.TheVariants.{Rejected, Past128, TooLarge, NoMemory}
-use Rattle.dc_check.specs.Systems.{IsSystemOf, HasSystems}
+use Rattle.dc_check.specs.Systems.{HasSystems}
 use Rattle.dc_check.specs.Answers.{main_fault, Accepts, IsFirst, FailsAt, IsTooLarge, IsFault}
-use Rattle.dc_session.proofs.Stops.{one_failure, accepts_or_fails}
-
-some_same : {A : Type 0} (x y : A) (o : Option A) → o ≡ Some x → o ≡ Some y → x ≡ y
-some_same x y o e f = cc
-
-some_none : {A : Type 0} (x : A) (o : Option A) → o ≡ Some x → o ≡ None → ⊥
-some_none x o e f = cc
-
-pub one_system : (version : ℕ) (p : Proc) (s t : System) → IsSystemOf version p s → IsSystemOf version p t → s ≡ t
-one_system version p s t (inl h) (inl k) = h.1 ∙ sym k.1
-one_system version p s t (inl (e, h)) (inr (f, k)) = absurd (omega arith)
-one_system version p s t (inr (e, h)) (inl (f, k)) = absurd (omega arith)
-one_system version p s t (inr h) (inr k) = one_folded (system_of p) s t h.1 k.1
-
-holds_none : (ss : List Step) → AllHold ss → first_failure ss ≡ None
-holds_none [] h = refl
-holds_none (s ∷ ss) h = ap (λ t. cond (is_true t) (first_failure ss) (Some s)) h.0 ∙ holds_none ss h.1
+use Rattle.dc_session.proofs.Stops.{one_failure, accepts_or_fails, some_none, some_same, one_system, holds_none}
 
 large_same : (w v : Count) (m n : ℕ) → ◌≡◌ {A = SystemFault} (system.TooLarge w m) (system.TooLarge v n) → (side : Option Side) → TooLarge side w m ≡ TooLarge side v n
 large_same w v m n e side =

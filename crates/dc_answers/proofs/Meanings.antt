@@ -23,16 +23,16 @@ use Rattle.dc_parse.proofs.Said.{hold_where_true}
 use Rattle.dc_session.specs.Session.{Input, candidates_for}
 use Rattle.dc_session.specs.Answers.{TellsCertificate}
 use Rattle.dc_session.proofs.Analyses.{are_of_greatest}
+use Rattle.dc_session.proofs.Stops.{one_system}
 use Rattle.dc_words.specs.Reading.{Reading, for_analyse, for_check, for_sample}
 use Rattle.dc_answers.specs.declared.refusal.Refusal.{Refusal}
 use Rattle.dc_answers.specs.Sources.{SaysCases, Say}
 use Rattle.dc_answers.specs.Sources as sources
-use Rattle.dc_answers.specs.Ends.{Output, output, End, Printed, Refused, TextsEnd, misread, understood, InputEnds, stops, shows, input_of, IsWritten, short, long, AnalyseEnds, SampleEnds, CheckEnds, no_text, has_text, CertificateEnds, fails, holds, IsSummed, ReadingEnds, Answers, usage, asked}
+use Rattle.dc_answers.specs.Ends.{Output, Printed, Refused, misread, understood, stops, shows, input_of, short, long, AnalyseEnds, SampleEnds, CheckEnds, no_text, has_text, fails, holds, ReadingEnds, usage, asked}
 use Rattle.dc_answers.specs.Ends as ends
 use Rattle.dc_answers.specs.Claims.{claim_line}
 use Rattle.dc_answers.specs.Headline.{IsAllowed, ClaimMeans, HasInvariants, AnalysisMeans, BeginsWith, AnalyseMeans, SampleMeans, CheckMeans, Means}
 use Rattle.dc_answers.specs.Laws.{OutputsMean, PrintedIsAccepted}
-use Rattle.dc_answers.proofs.Checks.{one_system}
 
 -- ---- runs: an input that the condition allows is allowed by its cases
 allowed_none : (cases : List (List Atom)) (v : State) → cases ≡ [] ∷ [] → Allowed cases v

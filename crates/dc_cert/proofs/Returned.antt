@@ -6,9 +6,9 @@ use Rattle.dc_math.specs.Rational.{ℚ, of_ℤ}
 use Rattle.dc_math.specs.Tests.{is_zero, eq_ℚ-true}
 use Rattle.dc_frac.specs.declared.Frac.{Frac}
 use Rattle.dc_frac.specs.Value.{value}
+use Rattle.dc_frac.proofs.ValueLaws.{same_frac}
 use Rattle.dc_cert.specs.declared.sparse.Item.{Item}
 use Rattle.dc_cert.specs.Vectors.{AreItems, IsBelow, nonzero_from, entry_after, entry_of, ItemsReturn}
-use Rattle.dc_cert.proofs.SameParts.{same_value}
 
 -- an index before the items has no entry
 pub entry-before : (x : ℚ) (k low : ℕ) (is : List Item) → AreItems low is → k < low → entry_after x is k ≡ x
@@ -67,7 +67,7 @@ returned m (f ∷ v) (i ∷ is) h b a = by (where_is m i.index h.0) (λ js x y z
     by (here e) more =
         let one : value f ≡ value i.value =
         first m f v (i ∷ is) a ∙ ap (λ t. entry_after (cond t (value i.value) (of_ℤ (pos 0))) is m) (eq-eqb i.index m e) ∙ entry-before (value i.value) m (suc i.index) is h.2 (omega arith) in
-        item_first m f v i is e (same_value f i.value one) h.1.nonzero
+        item_first m f v i is e (same_frac f i.value one) h.1.nonzero
         (more is (subst (λ n. AreItems (suc n) is) e h.2) (λ k d l. below (suc k) d (omega arith))
         (λ j d l. later m f v (i ∷ is) a j d l ∙ entry-other i is (suc m + j) (λ q. omega arith)))
     by (behind l) more =

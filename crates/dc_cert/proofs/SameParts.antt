@@ -1,21 +1,14 @@
 -- A fraction is its two parts, and so its value.
-use Rattle.std.specs.Prelude.{◌≡◌, ◌<◌, ◌^◌, ℤ, pos, negsuc, ◌≤ℤ◌, unsigned_abs}
+use Rattle.std.specs.Prelude.{◌≡◌, ◌<◌, ◌^◌, ℤ, pos, ◌≤ℤ◌, unsigned_abs}
 use Rattle.std.proofs.Common.{◌∙◌, ap, subst}
 use native.Mathlib.Nat.{ℕ_set}
 use Rattle.std.proofs.Math.Bridge.{le_prop}
-use Rattle.std.proofs.Math.Dec.{T_prop}
-use Rattle.std.proofs.Math.Bool.{So-prop}
 use Rattle.dc_math.specs.Gcd.{gcd}
+use Rattle.dc_math.specs.Lowest.{at_least_prop}
 use Rattle.dc_frac.specs.declared.Frac.{Frac}
-use Rattle.dc_frac.specs.Value.{value}
-use Rattle.dc_frac.proofs.ValueLaws.{value_num, value_den}
 
 unfoldable pub make : (n d : ℤ) → pos 1 ≤ℤ d → gcd (unsigned_abs n) (unsigned_abs d) ≡ 1 → unsigned_abs n < 2 ^ 127 → Frac
 make n d p r s = record { num = n; den = d; positive = p; reduced = r; small = s }
-
-at_least_prop : (d : ℤ) → IsProp (pos 1 ≤ℤ d)
-at_least_prop (pos n) = hlevel (T_prop, So-prop)
-at_least_prop (negsuc n) = hlevel (T_prop, So-prop)
 
 -- a fraction is its two parts
 pub same_parts : (f g : Frac) → f.num ≡ g.num → f.den ≡ g.den → f ≡ g
@@ -32,6 +25,3 @@ same_parts f g e h = go g.num g.den e h g.positive g.reduced g.small
     go n d e h =
         subst (λ y. (p : pos 1 ≤ℤ y) (r : gcd (unsigned_abs n) (unsigned_abs y) ≡ 1) (s : unsigned_abs n < 2 ^ 127) → f ≡ make n y p r s) h
         (subst (λ y. (p : pos 1 ≤ℤ f.den) (r : gcd (unsigned_abs y) (unsigned_abs f.den) ≡ 1) (s : unsigned_abs y < 2 ^ 127) → f ≡ make y f.den p r s) e at)
-
-pub same_value : (f g : Frac) → value f ≡ value g → f ≡ g
-same_value f g e = same_parts f g (value_num f g e) (value_den f g e)

@@ -1,6 +1,7 @@
 -- From each valid stage some lines lead to a whole certificate.
 use Rattle.std.specs.Prelude.{◌≡◌, ℕ, zero, suc, ◌+◌, ◌-◌, ◌≤◌, List, [], ◌∷◌, ◌++◌, length, codes, Option, Some, None, refl}
 use Rattle.std.proofs.Common.{arith, inl, inr}
+use Rattle.std.proofs.lemmas.Bool.{lt-ltb}
 use Rattle.dc_affine.specs.declared.atom.Atom.{Atom}
 use Rattle.dc_cert.specs.declared.sparse.Sparse.{Sparse}
 use Rattle.dc_cert.specs.declared.certificate.Liveness.{Liveness}
@@ -24,7 +25,7 @@ use Rattle.dc_certtext.specs.Due.{nothing_found}
 use Rattle.dc_certtext.specs.Stages.{head, with_when, front, edge_of, side_of, closed_by, offers}
 use Rattle.dc_lines.proofs.Cutting.{length-more}
 use Rattle.dc_certtext.proofs.Valid.{IsHead, Valid}
-use Rattle.dc_certtext.proofs.Paths.{Runs, stop, more, below-ltb, not-ltb}
+use Rattle.dc_certtext.proofs.Paths.{Runs, stop, more, not-ltb}
 
 pub record Completes (s : Stage) : Type 0 where
   pub lines : List Bytes
@@ -73,7 +74,7 @@ unfolding exit_line After
 entries_complete zero f fam done last e k =
     by_line (Entries f fam done last) (shown_line (codes "exit") exit_line) (closed_by f.head f.new (side_of fam (done ++ last ∷ []) [] exit_line)) (inr (inr (inr (inl (not-ltb (suc (length done)) f.head.cases (omega arith), (exit_line, tt, refl, refl)))))) (k _)
 entries_complete (suc m) f fam done last e k =
-    by_line (Entries f fam done last) (entry_line f.head.version (suc (length done))) (Entries f fam (done ++ last ∷ []) []) (inr (inl (below-ltb (suc (length done)) f.head.cases (omega arith), (refl, refl))))
+    by_line (Entries f fam done last) (entry_line f.head.version (suc (length done))) (Entries f fam (done ++ last ∷ []) []) (inr (inl (lt-ltb (suc (length done)) f.head.cases (omega arith), (refl, refl))))
     (entries_complete m f fam (done ++ last ∷ []) [] (let x = length-more done last in omega arith) k)
 
 locations_complete : (f : Front) (done : List (List Atom)) (last : List Atom) → 1 ≤ f.head.cases → After f.head f.new → Completes (Locations f done last)
@@ -100,7 +101,7 @@ heads_complete : (m : ℕ) (h : Head) → length h.when + m ≡ h.cases → 1 �
 unfolding exit_line
 heads_complete zero h e c = by_line (Heads h) (codes "side new") (Opened (front h None)) (inr (inl (not-ltb (length h.when) h.cases (omega arith), (refl, refl)))) (opened_completes (front h None) c (after h None c))
 heads_complete (suc m) h e c =
-    by_line (Heads h) (shown_line (codes "when") exit_line) (Heads (with_when h exit_line)) (inl (below-ltb (length h.when) h.cases (omega arith), (exit_line, tt, refl, refl)))
+    by_line (Heads h) (shown_line (codes "when") exit_line) (Heads (with_when h exit_line)) (inl (lt-ltb (length h.when) h.cases (omega arith), (exit_line, tt, refl, refl)))
     (heads_complete m (with_when h exit_line) (let x = length-more h.when exit_line in omega arith) c)
 
 some_case : (h : Head) → IsHead h → 1 ≤ h.cases

@@ -36,10 +36,7 @@ apart_not (a ∷ k) (b ∷ l) x y h e = by (eqb a b) refl h (apart_not k l x y)
   where
     by : (t : Bool) → eqb a b ≡ t → cond t (apart k l) true ≡ true → (apart k l ≡ true → k ++ x ≡ l ++ y → ⊥) → ⊥
     by true q h r = r h (let f : a ∷ (k ++ x) ≡ b ∷ (l ++ y) = e in cc)
-    by false q h r = (let f : a ∷ (k ++ x) ≡ b ∷ (l ++ y) = e in let g : a ≡ b = cc in let i : eqb a b ≡ true = ap (λ z. eqb a z) (sym g) ∙ same a in cc)
-      where
-        same : (a : ℕ) → eqb a a ≡ true
-        same a = eq-eqb a a refl
+    by false q h r = (let f : a ∷ (k ++ x) ≡ b ∷ (l ++ y) = e in let g : a ≡ b = cc in let i : eqb a b ≡ true = ap (λ z. eqb a z) (sym g) ∙ eq-eqb a a refl in cc)
 
 -- each word from those behind it
 abbrev pub Apart : Bytes → List Offer → Type 0

@@ -1,9 +1,9 @@
 -- Runs of lines from stage to stage, and the run of each certificate.
-use Rattle.std.specs.Prelude.{◌≡◌, ℕ, suc, ◌+◌, ◌≤◌, ◌<◌, Bool, true, false, not, ltb, List, [], ◌∷◌, ◌++◌, map, length, codes, Some, None, refl}
+use Rattle.std.specs.Prelude.{◌≡◌, ℕ, suc, ◌+◌, ◌≤◌, Bool, true, false, not, ltb, List, [], ◌∷◌, ◌++◌, map, length, codes, Some, None, refl}
 use Rattle.std.specs.List.{AllByRecursion}
 use Rattle.std.proofs.Common.{sym, ◌∙◌, ap, subst, arith, append_assoc, inl, inr}
 use Rattle.std.proofs.lemmas.List.{append-nil, length-append}
-use Rattle.std.proofs.lemmas.Bool.{ltb-true, ltb-false}
+use Rattle.std.proofs.lemmas.Bool.{ltb-true, lt-ltb}
 use Rattle.dc_affine.specs.declared.atom.Atom.{Atom}
 use Rattle.dc_affine.specs.Atoms.{IsAtom}
 use Rattle.dc_cert.specs.declared.sparse.Sparse.{Sparse}
@@ -48,13 +48,6 @@ more s b m bs t a r = (m, a, r)
 pub runs-append : (s : Stage) (xs : List Bytes) (m : Stage) (ys : List Bytes) (t : Stage) → Runs s xs m → Runs m ys t → Runs s (xs ++ ys) t
 runs-append s xs m ys t r k = readers.runs-append Step s xs m ys t r k
 
-pub below-ltb : (m n : ℕ) → m < n → ltb m n ≡ true
-below-ltb m n h = by (ltb m n) refl
-  where
-    by : (t : Bool) → ltb m n ≡ t → t ≡ true
-    by true e = refl
-    by false e = absurd (let x = ltb-false m n e in omega arith)
-
 pub not-ltb : (m n : ℕ) → n ≤ m → not (ltb m n) ≡ true
 not-ltb m n h = by (ltb m n) refl
   where
@@ -67,7 +60,7 @@ atoms_run : (f : Front) (done : List (List Atom)) (last more_atoms : List Atom) 
     → Runs (Locations f done last) (map atom_line more_atoms) (Locations f done (last ++ more_atoms))
 atoms_run f done last [] h k = subst (λ l. Runs (Locations f done last) [] (Locations f done l)) (sym (append-nil last)) (stop (Locations f done last))
 atoms_run f done last (a ∷ ats) h k =
-    more (Locations f done last) (atom_line a) (Locations f done (last ++ a ∷ [])) (map atom_line ats) (Locations f done (last ++ a ∷ ats)) (inl (below-ltb (length last) 1024 (omega arith), (a, k.0, refl, refl)))
+    more (Locations f done last) (atom_line a) (Locations f done (last ++ a ∷ [])) (map atom_line ats) (Locations f done (last ++ a ∷ ats)) (inl (lt-ltb (length last) 1024 (omega arith), (a, k.0, refl, refl)))
     (subst (λ l. Runs (Locations f done (last ++ a ∷ [])) (map atom_line ats) (Locations f done l)) (append_assoc last (a ∷ []) ats)
     (atoms_run f done (last ++ a ∷ []) ats (let x = length-append last (a ∷ []) in omega arith) k.1))
 
@@ -81,7 +74,7 @@ locations_run f done last (ats ∷ fam) h k =
       r.1,
       r.2 ∙ append_assoc done (last ∷ []) (ats ∷ fam),
       more (Locations f done last) (numbered (codes "location ") (suc (length done))) (Locations f (done ++ last ∷ []) []) (map atom_line ats ++ groups location_lines (suc (suc (length done))) fam) (Locations f r.0 r.1)
-          (inr (inl (below-ltb (suc (length done)) 128 (omega arith), (refl, refl))))
+          (inr (inl (lt-ltb (suc (length done)) 128 (omega arith), (refl, refl))))
           (runs-append (Locations f (done ++ last ∷ []) []) (map atom_line ats) (Locations f (done ++ last ∷ []) ats) (groups location_lines (suc (suc (length done))) fam) (Locations f r.0 r.1)
           (atoms_run f (done ++ last ∷ []) [] ats (let x = k.0.few in omega arith) k.0.each)
           (subst (λ n. Runs (Locations f (done ++ last ∷ []) ats) (groups location_lines (suc n) fam) (Locations f r.0 r.1)) (length-more done last) r.3)),
@@ -91,7 +84,7 @@ entry_keeps_run : (f : Front) (fam : List (List Atom)) (done : List (List Sparse
     → Runs (Entries f fam done last) (keep_lines keeps) (Entries f fam done (last ++ keeps))
 entry_keeps_run f fam done last [] h k = subst (λ l. Runs (Entries f fam done last) [] (Entries f fam done l)) (sym (append-nil last)) (stop (Entries f fam done last))
 entry_keeps_run f fam done last (s ∷ ss) h k =
-    more (Entries f fam done last) (vector_line (codes "keep") s) (Entries f fam done (last ++ s ∷ [])) (keep_lines ss) (Entries f fam done (last ++ s ∷ ss)) (inl (below-ltb (length last) 1024 (omega arith), (s, k.0, refl, refl)))
+    more (Entries f fam done last) (vector_line (codes "keep") s) (Entries f fam done (last ++ s ∷ [])) (keep_lines ss) (Entries f fam done (last ++ s ∷ ss)) (inl (lt-ltb (length last) 1024 (omega arith), (s, k.0, refl, refl)))
     (subst (λ l. Runs (Entries f fam done (last ++ s ∷ [])) (keep_lines ss) (Entries f fam done l)) (append_assoc last (s ∷ []) ss)
     (entry_keeps_run f fam done (last ++ s ∷ []) ss (let x = length-append last (s ∷ []) in omega arith) k.1))
 
@@ -104,7 +97,7 @@ entries_run f fam done last (ss ∷ ents) h k =
       r.1,
       r.2 ∙ append_assoc done (last ∷ []) (ss ∷ ents),
       more (Entries f fam done last) (entry_line f.head.version (suc (length done))) (Entries f fam (done ++ last ∷ []) []) (keep_lines ss ++ groups (entry_lines f.head.version) (suc (suc (length done))) ents) (Entries f fam r.0 r.1)
-          (inr (inl (below-ltb (suc (length done)) f.head.cases (omega arith), (refl, refl))))
+          (inr (inl (lt-ltb (suc (length done)) f.head.cases (omega arith), (refl, refl))))
           (runs-append (Entries f fam (done ++ last ∷ []) []) (keep_lines ss) (Entries f fam (done ++ last ∷ []) ss) (groups (entry_lines f.head.version) (suc (suc (length done))) ents) (Entries f fam r.0 r.1)
           (entry_keeps_run f fam (done ++ last ∷ []) [] ss (let x = k.0.few in omega arith) k.0.vectors)
           (subst (λ n. Runs (Entries f fam (done ++ last ∷ []) ss) (groups (entry_lines f.head.version) (suc n) ents) (Entries f fam r.0 r.1)) (length-more done last) r.3)),
@@ -115,7 +108,7 @@ edge_keeps_run : (f : Front) (fam : List (List Atom)) (ents : List (List Sparse)
 edge_keeps_run f fam ents done live last [] h k = subst (λ l. Runs (Edges f fam ents done live last) [] (Edges f fam ents done live l)) (sym (append-nil last)) (stop (Edges f fam ents done live last))
 edge_keeps_run f fam ents done live last (s ∷ ss) h k =
     more (Edges f fam ents done live last) (vector_line (codes "keep") s) (Edges f fam ents done live (last ++ s ∷ [])) (keep_lines ss) (Edges f fam ents done live (last ++ s ∷ ss))
-    (inl (below-ltb (length last) 1024 (omega arith), (s, k.0, refl, refl)))
+    (inl (lt-ltb (length last) 1024 (omega arith), (s, k.0, refl, refl)))
     (subst (λ l. Runs (Edges f fam ents done live (last ++ s ∷ [])) (keep_lines ss) (Edges f fam ents done live l)) (append_assoc last (s ∷ []) ss)
     (edge_keeps_run f fam ents done live (last ++ s ∷ []) ss (let x = length-append last (s ∷ []) in omega arith) k.1))
 
@@ -130,7 +123,7 @@ edges_run f fam ents done live last (e ∷ edges) l h k s =
     let t = closed_by f.head f.new (side_of fam ents (done ++ edge_of live last ∷ e ∷ edges) l) in
     more (Edges f fam ents done live last) (edge_line (suc (length done)) e.live) (Edges f fam ents (done ++ edge_of live last ∷ []) e.live [])
     ((keep_lines e.keeps ++ groups edge_lines (suc (suc (length done))) edges) ++ (shown_line (codes "exit") l ∷ [])) t
-    (inr (inl (below-ltb (suc (length done)) 512 (omega arith), (e.live, k.0.live, refl, refl))))
+    (inr (inl (lt-ltb (suc (length done)) 512 (omega arith), (e.live, k.0.live, refl, refl))))
     (subst (λ w. Runs (Edges f fam ents (done ++ edge_of live last ∷ []) e.live []) w t) (sym (append_assoc (keep_lines e.keeps) (groups edge_lines (suc (suc (length done))) edges) (shown_line (codes "exit") l ∷ [])))
     (runs-append (Edges f fam ents (done ++ edge_of live last ∷ []) e.live []) (keep_lines e.keeps) (Edges f fam ents (done ++ edge_of live last ∷ []) e.live e.keeps)
     (groups edge_lines (suc (suc (length done))) edges ++ (shown_line (codes "exit") l ∷ [])) t
@@ -196,7 +189,7 @@ whens_run : (c : Claim) (v d k m : ℕ) (w rest : List Liveness) → length w + 
 whens_run c v d k m w [] h i = subst (λ x. Runs (Heads (head c v d k m w)) [] (Heads (head c v d k m x))) (sym (append-nil w)) (stop (Heads (head c v d k m w)))
 whens_run c v d k m w (l ∷ rest) h i =
     more (Heads (head c v d k m w)) (shown_line (codes "when") l) (Heads (head c v d k m (w ++ l ∷ []))) (map (shown_line (codes "when")) rest) (Heads (head c v d k m (w ++ l ∷ rest)))
-    (inl (below-ltb (length w) m (omega arith), (l, i.0, refl, refl)))
+    (inl (lt-ltb (length w) m (omega arith), (l, i.0, refl, refl)))
     (subst (λ x. Runs (Heads (head c v d k m (w ++ l ∷ []))) (map (shown_line (codes "when")) rest) (Heads (head c v d k m x))) (append_assoc w (l ∷ []) rest)
     (whens_run c v d k m (w ++ l ∷ []) rest (let x = length-more w l in omega arith) i.1))
 

@@ -2,6 +2,7 @@
 use Rattle.std.specs.Prelude.{◌≡◌, ℕ, ◌*◌, ◌≤◌, Bool, true, false, cond, ltb, if◌then◌else◌, List, [], ◌∷◌, length, ℤ, Option, Some, None, IsFalse}
 use Rattle.std.proofs.Common.{refl, sym, ◌∙◌, ap, ap₂, subst, arith, inl, inr}
 use Rattle.std.proofs.lemmas.Bool.{ltb-false}
+use Rattle.std.proofs.lemmas.Option.{same_Some}
 use Rattle.dc_frac.specs.Value.{value}
 use Rattle.dc_syntax.specs.declared.tree.Proc.{Proc}
 use Rattle.dc_syntax.specs.Params.{HaveSameParams}
@@ -52,12 +53,9 @@ stops-false : (ss : List Step) (x : Step) → first_failure ss ≡ Some x → Is
 stops-false [] x e = absurd cc
 stops-false (s ∷ ss) x e = by (is_true s.test) refl e (λ f. stops-false ss x f)
   where
-    same : (s x : Step) → Some s ≡ Some x → s ≡ x
-    same s x e = cc
-
     by : (b : Bool) → is_true s.test ≡ b → cond b (first_failure ss) (Some s) ≡ Some x → (first_failure ss ≡ Some x → IsFalse (is_true x.test)) → IsFalse (is_true x.test)
     by true q e r = r e
-    by false q e r = ap (λ (y : Step). is_true y.test) (sym (same s x e)) ∙ q
+    by false q e r = ap (λ (y : Step). is_true y.test) (sym (same_Some s x e)) ∙ q
 
 few_columns : (n : ℕ) (o : Option MatchFault) → (if ltb 8192 n then Some (match_fault.TooLarge count.Columns n) else o) ≡ None → n ≤ 8192
 few_columns n o e = by (ltb 8192 n) refl e

@@ -1,8 +1,9 @@
 -- The clauses on families hold, for both programs.
-use Rattle.std.specs.Prelude.{◌≡◌, Bool, true, eqb, List, ◌++◌, map, length, Some}
+use Rattle.std.specs.Prelude.{◌≡◌, true, eqb, List, ◌++◌, map, length, Some}
 use Rattle.std.specs.List.{AllByRecursion, list_all}
 use Rattle.std.proofs.Common.{◌∙◌, subst}
 use Rattle.std.proofs.lemmas.Bool.{and_parts}
+use Rattle.std.proofs.lemmas.Option.{same_Some}
 use Rattle.dc_affine.specs.declared.atom.Atom.{Atom}
 use Rattle.dc_system.specs.declared.edges.System.{System}
 use Rattle.dc_system.specs.Shapes.{IsWellFormed}
@@ -50,12 +51,9 @@ holds_both s t cases c e h =
     let keeps = true_both (keep_tests s c.new_side) (keep_tests t c.old_side) (hold_true 5 0 (keep_tests s c.new_side ++ keep_tests t c.old_side) g.0) in
     let exits = hold_true 6 0 (exit_tests s c.new_side t c.old_side) g.1 in
     record {
-      new = record { shape = some_true _ shapes.0; lines = lines; entry = entries.0; edges = edges.0; keeps = keeps.0; exit = exits.0 };
-      old = record { shape = some_true _ shapes.1.0; lines = subst (λ n. AreTrue (case_tests n cases c.when)) e lines; entry = entries.1; edges = edges.1; keeps = keeps.1; exit = exits.1.0 };
+      new = record { shape = same_Some _ true shapes.0; lines = lines; entry = entries.0; edges = edges.0; keeps = keeps.0; exit = exits.0 };
+      old = record { shape = same_Some _ true shapes.1.0; lines = subst (λ n. AreTrue (case_tests n cases c.when)) e lines; entry = entries.1; edges = edges.1; keeps = keeps.1; exit = exits.1.0 };
     }
-  where
-    some_true : (b : Bool) → Some b ≡ Some true → b ≡ true
-    some_true b e = cc
 
 -- ---- what it gives
 module _ (s : System) (cases : List (List Atom)) (when : List Liveness) (x : SideCert) (wf : IsWellFormed s) (side : IsSide (length when) x) (ok : AllByRecursion (IsCase s.params) cases) (h : Holds s cases when x) where

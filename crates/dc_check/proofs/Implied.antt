@@ -1,5 +1,5 @@
 -- What the lines of a certificate imply at points.
-use Rattle.std.specs.Prelude.{◌≡◌, ℕ, ◌≤◌, true, false, List, [], ◌∷◌, ◌++◌, take, length, ℤ, pos, Some}
+use Rattle.std.specs.Prelude.{◌≡◌, ℕ, ◌≤◌, true, List, [], ◌++◌, take, length, ℤ, pos, Some}
 use Rattle.std.specs.List.{AllByRecursion}
 use Rattle.std.proofs.Common.{refl, sym, subst, arith, get_or-take, length-take}
 use Rattle.dc_affine.specs.declared.atom.Atom.{Atom}
@@ -18,7 +18,8 @@ use Rattle.dc_points.specs.Shown.{ShowsAtom, ShowsDead, ShowsLive}
 use Rattle.dc_points.specs.Flags.{IsFlag}
 use Rattle.dc_points.proofs.Combinations.{empty_solutions_combine, refutations_show}
 use Rattle.dc_points.proofs.Farkas.{dead_are_shown, live_are_named, shown_are_entailed}
-use Rattle.dc_points.proofs.Whole.{atoms_are_forms}
+use Rattle.dc_points.proofs.Whole.{atoms_are_forms, over_atoms}
+use Rattle.dc_points.proofs.Flags.{dead_flag, live_flag}
 use Rattle.dc_families.specs.Moves.{at_start, edge_places, form_after}
 use Rattle.dc_moves.specs.Cuts.{with_guard}
 use Rattle.dc_moves.proofs.Cuts.{cuts_ask_the_same, cuts_say_the_same, cuts_are_atoms}
@@ -28,11 +29,6 @@ use Rattle.dc_clauses.specs.Lines.{at, line_parts, keep_parts}
 use Rattle.dc_check.proofs.Shown.{Shows, keep_shows, shows_atom, dead_shows, live_shows}
 
 -- ---- flags
-pub dead_flag : (hyps : List Atom) → IsDead hyps → IsFlag false hyps
-dead_flag hyps d = (λ e. absurd cc, λ h. absurd (h d))
-
-pub live_flag : (hyps : List Atom) → (¬ IsDead hyps) → IsFlag true hyps
-live_flag hyps h = (λ e. h, λ g. refl)
 
 -- ---- a list over n places
 pub line_flag : (hyps : List Atom) (n : ℕ) (line : Liveness) → AreOver n hyps → all_of (line_parts hyps n line) ≡ Some true → IsFlag (is_live line) hyps
@@ -47,12 +43,8 @@ module _ (n : ℕ) (e : Edge) (atoms : List Atom) (h : IsEdge n e) (w : AllByRec
   abbrev cut : List Atom
   cut = with_guard places atoms e
 
-  over-of : (m : ℕ) (xs : List Atom) → AllByRecursion (IsAtom m) xs → AreOver m xs
-  over-of m [] g = tt
-  over-of m (x ∷ xs) g = (g.0.few, over-of m xs g.1)
-
   over : AreOver places cut
-  over = over-of places cut (cuts_are_atoms n e atoms h w)
+  over = over_atoms places cut (cuts_are_atoms n e atoms h w)
 
   asks : empty_problem (atoms ++ e.guard) places ≡ empty_problem cut places
   asks = sym (cuts_ask_the_same places atoms e)

@@ -17,9 +17,10 @@ use Rattle.dc_cert.specs.declared.certificate.Liveness.{Liveness}
 use Rattle.dc_cert.specs.declared.certificate.EdgeCert.{EdgeCert}
 use Rattle.dc_cert.specs.declared.certificate.SideCert.{SideCert}
 use Rattle.dc_cert.specs.Ranges.{is_live}
-use Rattle.dc_points.specs.Points.{Point, MeetsAt, MeetsAll, AreOver, Entails}
+use Rattle.dc_points.specs.Points.{Point, MeetsAt, MeetsAll, Entails}
 use Rattle.dc_points.specs.Flags.{IsFlag, AreFlags}
 use Rattle.dc_points.proofs.Flags.{flag-false}
+use Rattle.dc_points.proofs.Whole.{over_atoms}
 use Rattle.dc_families.specs.Graphs.{graph_of}
 use Rattle.dc_families.specs.Families.{family_of}
 use Rattle.dc_families.specs.Moves.{at_start}
@@ -73,11 +74,7 @@ full_atoms n (a ∷ atoms) h g =
     let b = and_parts (eqb (length a.coefs) n) (list_all (λ (a : Atom). eqb (length a.coefs) n) atoms) h in
     (record { few = (let e = eqb-true (length a.coefs) n b.0 in omega arith); coefs_within = g.0.coefs_within; constant_within = g.0.constant_within }, full_atoms n atoms b.1 g.1)
 
-pub over_atoms : (n : ℕ) (atoms : List Atom) → AllByRecursion (IsAtom n) atoms → AreOver n atoms
-over_atoms n [] h = tt
-over_atoms n (a ∷ atoms) h = (h.0.few, over_atoms n atoms h.1)
-
-all_true : (atoms : List Atom) (x : List ℤ) → ((a : Atom) → Among a atoms → holds_at a x ≡ true) → all_hold atoms x ≡ true
+pub all_true : (atoms : List Atom) (x : List ℤ) → ((a : Atom) → Among a atoms → holds_at a x ≡ true) → all_hold atoms x ≡ true
 all_true [] x h = refl
 all_true (a ∷ atoms) x h = and_from (holds_at a x) (all_hold atoms x) (h a head) (all_true atoms x (λ b m. h b (tail m)))
 

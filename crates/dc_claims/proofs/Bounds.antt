@@ -1,9 +1,10 @@
 -- A run of new costs at most a certified threshold more than a run of old.
-use Rattle.std.specs.Prelude.{◌≡◌, ℕ, zero, suc, ◌+◌, ◌≤◌, ◌<◌, ◌-◌, Bool, true, false, ◌&&◌, ◌||◌, List, [], ◌∷◌, ◌++◌, map, length, replicate, slice_index_or, ℤ, pos, negsuc, ◌+ℤ◌, ◌-ℤ◌, ◌*ℤ◌, neg_ℤ, ◌≤ℤ◌, int_le}
+use Rattle.std.specs.Prelude.{◌≡◌, ℕ, zero, suc, ◌+◌, ◌≤◌, ◌<◌, ◌-◌, Bool, true, false, ◌&&◌, ◌||◌, List, [], ◌∷◌, ◌++◌, map, length, replicate, slice_index_or, ℤ, pos, ◌+ℤ◌, ◌-ℤ◌, ◌*ℤ◌, neg_ℤ, ◌≤ℤ◌, int_le}
 use Rattle.std.specs.List.{range_with_len, AllByRecursion}
 use Rattle.std.proofs.Common.{refl, sym, ◌∙◌, ap, ap₂, subst, arith, length-append}
 use Rattle.std.proofs.lemmas.List.{length-replicate}
 use Rattle.std.proofs.lemmas.Int.{ints}
+use Rattle.std.proofs.lemmas.Bool.{and_parts}
 use Rattle.dc_math.specs.Members.{Among, head, tail, each-weaker}
 use Rattle.dc_math.specs.Integers.{0≤ℤ-*ℤ}
 use Rattle.dc_math.specs.WholeVectors.{dot_ℤ-longer}
@@ -26,11 +27,10 @@ use Rattle.dc_handelman.specs.Choices.{Choice, choices_of}
 use Rattle.dc_handelman.specs.Products.{choice_value, atom_at}
 use Rattle.dc_template.specs.Templates.{mono_values}
 use Rattle.dc_points.specs.Points.{whole_point}
-use Rattle.dc_points.proofs.Whole.{whole_points_meet}
+use Rattle.dc_points.proofs.Whole.{whole_points_meet, test_true}
 use Rattle.dc_template.proofs.Listed.{are_monomials}
 use Rattle.dc_template.proofs.Values.{mono_values-longer}
 use Rattle.dc_poly.specs.Monomials.{IsWithin}
-use Rattle.dc_affine.proofs.FormLaws.{and_both}
 use Rattle.dc_system.specs.Shapes.{IsWellFormed}
 use Rattle.dc_system.proofs.CostPaths.{path_length}
 use Rattle.dc_claims.specs.Plans.{IsPair}
@@ -44,15 +44,11 @@ use Rattle.dc_claims.specs.declared.duty.Duty.TheVariants.{Along, AtExit, AtEntr
 use Rattle.dc_claims.specs.Claims.{monomials_at}
 use Rattle.dc_claims.specs.Claims.{Potential, Multipliers, potential_value, left_value, product_values, products_count, Certifies}
 
-test_true : (v : ℤ) → int_le (pos 0) v ≡ true → pos 0 ≤ℤ v
-test_true (pos n) h = omega (arith, ints)
-test_true (negsuc n) h = absurd (let d : false ≡ true = h in cc)
-
 -- ---- products of atoms that hold
 factor_positive : (hyps : List Atom) (x : List ℤ) (i : ℕ) → all_hold hyps x ≡ true → pos 0 ≤ℤ atom_value (atom_at hyps i) x
 factor_positive [] x i h = omega (arith, ints)
-factor_positive (a ∷ hyps) x zero h = test_true (atom_value a x) (and_both (holds_at a x) (all_hold hyps x) h).0
-factor_positive (a ∷ hyps) x (suc i) h = factor_positive hyps x i (and_both (holds_at a x) (all_hold hyps x) h).1
+factor_positive (a ∷ hyps) x zero h = test_true (atom_value a x) (and_parts (holds_at a x) (all_hold hyps x) h).0
+factor_positive (a ∷ hyps) x (suc i) h = factor_positive hyps x i (and_parts (holds_at a x) (all_hold hyps x) h).1
 
 choice_positive : (hyps : List Atom) (x : List ℤ) (c : Choice) → all_hold hyps x ≡ true → pos 0 ≤ℤ choice_value hyps c x
 choice_positive hyps x [] h = omega (arith, ints)
@@ -67,13 +63,13 @@ dot_positive [] ys h k = zero_non_negative
 dot_positive (x ∷ xs) [] h k = zero_non_negative
 dot_positive (x ∷ xs) (y ∷ ys) h k = NonNegative-+ℚ _ _ (NonNegative-*ℚ _ _ h.0 k.0) (dot_positive xs ys h.1 k.1)
 
-each_made : (f : ℕ → ℚ) (a n : ℕ) → ((i : ℕ) → i < a + n → NonNegative (f i)) → AllByRecursion NonNegative (map f (range_with_len a n))
+pub each_made : (f : ℕ → ℚ) (a n : ℕ) → ((i : ℕ) → i < a + n → NonNegative (f i)) → AllByRecursion NonNegative (map f (range_with_len a n))
 each_made f a zero h = tt
 each_made f a (suc n) h = (h a (omega arith), each_made f (a + 1) n (λ i l. h i (omega arith)))
 
 all-append : (gs hs : List Atom) (x : List ℤ) → all_hold gs x ≡ true → all_hold hs x ≡ true → all_hold (gs ++ hs) x ≡ true
 all-append [] hs x h k = k
-all-append (a ∷ gs) hs x h k = let b = and_both (holds_at a x) (all_hold gs x) h in ap₂ ◌&&◌ b.0 (all-append gs hs x b.1 k)
+all-append (a ∷ gs) hs x h k = let b = and_parts (holds_at a x) (all_hold gs x) h in ap₂ ◌&&◌ b.0 (all-append gs hs x b.1 k)
 
 number_of : (e : Edge) (es : List Edge) → Among e es → (n : ℕ) × (n < length es) × (slice_index_or es n no_edge ≡ e)
 number_of e es head = (0, omega arith, refl)
@@ -143,7 +139,7 @@ module _ (p : Pair) (d k : ℕ) (t : ℚ) (φ χ : Potential) (multipliers : Mul
     widened : (n : ℕ) (gs : List Atom) (x : State) (z : ℤ) → AllByRecursion (IsAtom n) gs → length x ≡ n → all_hold gs x ≡ true → all_hold gs (at x z) ≡ true
     widened n [] x z w l h = refl
     widened n (a ∷ gs) x z w l h =
-        let b = and_both (holds_at a x) (all_hold gs x) h in
+        let b = and_parts (holds_at a x) (all_hold gs x) h in
         ap₂ ◌&&◌ (ap (λ v. int_le (pos 0) (a.c0 +ℤ v)) (dot_ℤ-longer a.coefs x (z ∷ []) (subst (λ i. length a.coefs ≤ i) (sym l) w.0.few)) ∙ b.0) (widened n gs x z w.1 l b.1)
 
     same_value : (side : Side) (f : Potential) (l : ℕ) (x : State) (z : ℤ) → length x ≡ (system_of p side).vars → potential_value p d side f l (at x z) ≡ potential_value p d side f l x

@@ -2,7 +2,8 @@
 use Rattle.std.specs.Prelude.{◌≡◌, ℕ, zero, suc, ◌+◌, ◌≤◌, ◌<◌, Bool, true, false, cond, eqb, List, [], ◌∷◌, ◌++◌, map, flat_map}
 use Rattle.std.specs.List.{range_with_len}
 use Rattle.std.proofs.Common.{refl, ap₂, arith}
-use Rattle.dc_claims.proofs.Totals.{eqb_other, eqb_is}
+use Rattle.std.proofs.lemmas.Bool.{ne_eqb}
+use Rattle.dc_claims.proofs.Totals.{eqb_is}
 
 abbrev pub passing : {A : Type 0} → (A → Bool) → List A → ℕ
 passing test [] = 0
@@ -33,7 +34,7 @@ flat_at_most test f key (x ∷ xs) h = let e = passing-++ test (f x) (flat_map f
 -- ---- numbers
 pub range_past : (n a m : ℕ) → n < a → passing (eqb n) (range_with_len a m) ≡ 0
 range_past n a zero h = refl
-range_past n a (suc m) h = ap₂ (λ b j. cond b 1 0 + j) (eqb_other n a (λ e. omega arith)) (range_past n (a + 1) m (omega arith))
+range_past n a (suc m) h = ap₂ (λ b j. cond b 1 0 + j) (ne_eqb n a (λ e. omega arith)) (range_past n (a + 1) m (omega arith))
 
 pub range_once : (n a m : ℕ) → passing (eqb n) (range_with_len a m) ≤ 1
 range_once n a zero = omega arith

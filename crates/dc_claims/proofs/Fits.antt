@@ -38,10 +38,6 @@ wider : (n : ℕ) (gs : List Atom) → AllByRecursion (IsAtom n) gs → AllByRec
 wider n [] h = tt
 wider n (a ∷ gs) h = (record { few = (let l = h.0.few in omega arith); coefs_within = h.0.coefs_within; constant_within = h.0.constant_within }, wider n gs h.1)
 
-atoms-++ : (n : ℕ) (gs hs : List Atom) → AllByRecursion (IsAtom n) gs → AllByRecursion (IsAtom n) hs → AllByRecursion (IsAtom n) (gs ++ hs)
-atoms-++ n [] hs h k = k
-atoms-++ n (a ∷ gs) hs h k = (h.0, atoms-++ n gs hs h.1 k)
-
 pub atoms_in : (n l : ℕ) (xs : List (List Atom)) → AllByRecursion (AreAtoms n) xs → AllByRecursion (IsAtom n) (slice_index_or xs l [])
 atoms_in n l [] h = tt
 atoms_in n zero (x ∷ xs) h = h.0.within
@@ -92,7 +88,7 @@ module _ (p : Pair) (d k : ℕ) (f : Flags) (fit : IsFit p d k f) where
   is_within side n h = All-from_recursion _ _ (formed side).ends n no_edge h
 
   pub atoms_fit : (o : Duty) → IsThere p o → AllByRecursion (IsAtom (places_of p o)) (atoms_of p o)
-  atoms_fit (Along side n) h = atoms-++ _ _ _ (wider _ _ (location_atoms side (edge_at (system_of p side) n).from)) (is_edge side n h).atoms
+  atoms_fit (Along side n) h = each-++ (IsAtom _) _ _ (wider _ _ (location_atoms side (edge_at (system_of p side) n).from)) (is_edge side n h).atoms
   atoms_fit (AtExit side) h = location_atoms side (exit_of (system_of p side))
   atoms_fit (AtEntry n) h = case_in _ n p.cases fit.pair.cases.each
 

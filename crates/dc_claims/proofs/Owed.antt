@@ -3,8 +3,9 @@ use Rattle.std.specs.Prelude.{◌≡◌, ℕ, zero, suc, ◌+◌, ◌≤◌, ◌
 use Rattle.std.specs.List.{AllByRecursion}
 use Rattle.std.proofs.Common.{refl, sym, ◌∙◌, ap, ap₂, subst, arith}
 use Rattle.std.proofs.lemmas.List.{length-map, get_or-map}
+use Rattle.std.proofs.lemmas.Bool.{ne_eqb}
 use Rattle.dc_math.specs.Members.{each-++, each-map}
-use Rattle.dc_math.specs.Rational.{ℚ, ◌+ℚ◌, of_ℤ, zero-+ℚ}
+use Rattle.dc_math.specs.Rational.{ℚ, ◌+ℚ◌, of_ℤ, zero-+ℚ, +ℚ-zero}
 use Rattle.dc_syntax.specs.declared.tree.Side.{Side}
 use Rattle.dc_syntax.specs.declared.tree.Side.TheVariants.{New, Old}
 use Rattle.dc_affine.specs.declared.atom.Atom.{Atom}
@@ -14,7 +15,7 @@ use Rattle.dc_claims.specs.Duties.{Pair, system_of, no_edge, edge_atoms, atoms_o
 use Rattle.dc_claims.specs.declared.duty.Duty.{Duty}
 use Rattle.dc_claims.specs.declared.duty.Duty.TheVariants.{Along, AtExit, AtEntry}
 use Rattle.dc_claims.proofs.Counting.{passing, passing-++, passing-map, none_mapped}
-use Rattle.dc_claims.proofs.Totals.{total, plus_zero, eqb_same, eqb_other, eqb_is}
+use Rattle.dc_claims.proofs.Totals.{total, eqb_same, eqb_is}
 
 -- ---- duties that are the same
 pub same_duty_refl : (o : Duty) → same_duty o o ≡ true
@@ -71,20 +72,20 @@ total_none h o (c ∷ cs) z e = by (total_none h o cs z) (same_duty o c) refl e
   where
     by : (occurs o cs ≡ 0 → total h cs ≡ of_ℤ (pos 0)) → (b : Bool) → same_duty o c ≡ b → cond b 1 0 + occurs o cs ≡ 0 → h c +ℚ total h cs ≡ of_ℤ (pos 0)
     by r true q e = absurd (omega arith)
-    by r false q e = ap₂ ◌+ℚ◌ (z c q) (r (omega arith)) ∙ plus_zero (of_ℤ (pos 0))
+    by r false q e = ap₂ ◌+ℚ◌ (z c q) (r (omega arith)) ∙ +ℚ-zero (of_ℤ (pos 0))
 
 pub total_once : (h : Duty → ℚ) (o : Duty) (os : List Duty) → ((c : Duty) → same_duty o c ≡ false → h c ≡ of_ℤ (pos 0)) → occurs o os ≡ 1 → total h os ≡ h o
 total_once h o [] z e = absurd (omega arith)
 total_once h o (c ∷ cs) z e = by (total_once h o cs z) (same_duty o c) refl e
   where
     by : (occurs o cs ≡ 1 → total h cs ≡ h o) → (b : Bool) → same_duty o c ≡ b → cond b 1 0 + occurs o cs ≡ 1 → h c +ℚ total h cs ≡ h o
-    by r true q e = ap₂ ◌+ℚ◌ (ap h (sym (same_duty_is o c q))) (total_none h o cs z (omega arith)) ∙ plus_zero (h o)
+    by r true q e = ap₂ ◌+ℚ◌ (ap h (sym (same_duty_is o c q))) (total_none h o cs z (omega arith)) ∙ +ℚ-zero (h o)
     by r false q e = ap (λ y. y +ℚ total h cs) (z c q) ∙ zero-+ℚ (total h cs) ∙ r (omega arith)
 
 -- ---- the numbers of the flags that are set
 count_past : (n k : ℕ) (bs : List Bool) → n < k → passing (eqb n) (numbers_set k bs) ≡ 0
 count_past n k [] h = refl
-count_past n k (true ∷ bs) h = ap₂ (λ b j. cond b 1 0 + j) (eqb_other n k (λ e. omega arith)) (count_past n (suc k) bs (omega arith))
+count_past n k (true ∷ bs) h = ap₂ (λ b j. cond b 1 0 + j) (ne_eqb n k (λ e. omega arith)) (count_past n (suc k) bs (omega arith))
 count_past n k (false ∷ bs) h = count_past n (suc k) bs (omega arith)
 
 count_set : (k i : ℕ) (bs : List Bool) (hs : List (List Atom)) → AreFlags bs hs → i < length hs → ¬ IsDead (slice_index_or hs i []) → passing (eqb (k + i)) (numbers_set k bs) ≡ 1
@@ -98,7 +99,7 @@ count_set k zero (false ∷ bs) (h ∷ hs) f l n = absurd (let c : false ≡ tru
 count_set k (suc i) (b ∷ bs) (h ∷ hs) f l n = by b (let e : suc k + i ≡ k + suc i = omega arith in subst (λ j. passing (eqb j) (numbers_set (suc k) bs) ≡ 1) e (count_set (suc k) i bs hs f.1 (omega arith) n))
   where
     by : (b : Bool) → passing (eqb (k + suc i)) (numbers_set (suc k) bs) ≡ 1 → passing (eqb (k + suc i)) (numbers_set k (b ∷ bs)) ≡ 1
-    by true r = ap₂ (λ b j. cond b 1 0 + j) (eqb_other (k + suc i) k (λ e. omega arith)) r
+    by true r = ap₂ (λ b j. cond b 1 0 + j) (ne_eqb (k + suc i) k (λ e. omega arith)) r
     by false r = r
 
 each_set : (P : ℕ → Type 0) (k : ℕ) (bs : List Bool) (hs : List (List Atom)) → AreFlags bs hs → ((i : ℕ) → i < length hs → ¬ IsDead (slice_index_or hs i []) → P (k + i)) → AllByRecursion P (numbers_set k bs)

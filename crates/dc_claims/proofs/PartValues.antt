@@ -2,12 +2,14 @@
 use Rattle.std.specs.Prelude.{◌≡◌, ℕ, zero, suc, ◌+◌, ◌<◌, Bool, true, false, cond, ◌&&◌, eqb, List, [], ◌∷◌, ◌++◌, map, take, drop, length, slice_index_or, ℤ, pos, ◌+ℤ◌, ◌*ℤ◌}
 use Rattle.std.specs.List.{range_with_len, list_all}
 use Rattle.std.proofs.Common.{refl, sym, ◌∙◌, ap, ap₂, arith}
-use Rattle.std.proofs.lemmas.Int.{ints}
+use Rattle.std.proofs.Math.IntN.{zero-*ℤ, *ℤ-zero}
+use Rattle.std.proofs.lemmas.Bool.{ne_eqb}
 use Rattle.dc_math.specs.WholeRing as whole
-use Rattle.dc_math.specs.Rational.{ℚ, ◌+ℚ◌, ◌-ℚ◌, ◌*ℚ◌, neg_ℚ, of_ℤ, of_ℤ-+ℤ}
+use Rattle.dc_math.specs.Rational.{ℚ, ◌+ℚ◌, ◌-ℚ◌, ◌*ℚ◌, neg_ℚ, of_ℤ, of_ℤ-+ℤ, *ℚ-zero, *ℚ-one}
 use Rattle.dc_math.specs.RationalRing.{ring, reads, read_nat, same_form}
-use Rattle.dc_math.specs.Order.{of_ℤ-neg_ℤ}
+use Rattle.dc_math.specs.Order.{of_ℤ-neg_ℤ, *ℚ-neg_ℚ}
 use Rattle.dc_math.specs.Vectors.{dot}
+use Rattle.dc_math.specs.Integers.{one-*ℤ}
 use Rattle.dc_lp.specs.Tables.{made}
 use Rattle.dc_syntax.specs.declared.tree.Side.{Side}
 use Rattle.dc_syntax.specs.declared.tree.Side.TheVariants.{New, Old}
@@ -25,7 +27,7 @@ use Rattle.dc_claims.specs.Claims.{monomials_at}
 use Rattle.dc_claims.specs.Parts.{unknowns_at, unknowns_on, unknowns_of, when, before, behind, itself, at_inputs, monomial_at, part_of, rest_of}
 use Rattle.dc_claims.specs.Claims.{Potential, potential_value, left_value}
 use Rattle.dc_claims.specs.Laws.{unknown_value}
-use Rattle.dc_claims.proofs.Totals.{total, total-++, total-map, total-flat_map, total_same, total_zero, total--ℚ, total-neg, dot_total, by_index, eqb_other, total_only}
+use Rattle.dc_claims.proofs.Totals.{total, total-++, total-map, total-flat_map, total_same, total_zero, total--ℚ, total-neg, dot_total, by_index, total_only}
 
 -- ---- a monomial as a duty has it
 one_term : (y : ℤ) → pos 1 *ℤ y +ℤ pos 0 ≡ y
@@ -47,17 +49,11 @@ itself_value m x = one_term _
 -- with all numbers 0 a monomial is 1 where it has no exponent, and else 0
 at_nothing : (m : Exponents) → cond (list_all (eqb 0) m) (pos 1) (pos 0) ≡ mono_value m []
 at_nothing [] = refl
-at_nothing (zero ∷ m) = at_nothing m ∙ sym (one_times (mono_value m []))
-  where
-    one_times : (y : ℤ) → pos 1 *ℤ y ≡ y
-    one_times y = omega (arith, ints)
-at_nothing (suc e ∷ m) = ap (λ b. cond (b && list_all (eqb 0) m) (pos 1) (pos 0)) (eqb_other 0 (suc e) (λ q. omega arith)) ∙ sym (no_times (power (pos 0) e) (mono_value m []))
+at_nothing (zero ∷ m) = at_nothing m ∙ sym (one-*ℤ (mono_value m []))
+at_nothing (suc e ∷ m) = ap (λ b. cond (b && list_all (eqb 0) m) (pos 1) (pos 0)) (ne_eqb 0 (suc e) (λ q. omega arith)) ∙ sym (no_times (power (pos 0) e) (mono_value m []))
   where
     no_times : (y z : ℤ) → (pos 0 *ℤ y) *ℤ z ≡ pos 0
-    no_times y z = ap (λ v. v *ℤ z) (none y) ∙ none z
-      where
-        none : (y : ℤ) → pos 0 *ℤ y ≡ pos 0
-        none y = omega (arith, ints)
+    no_times y z = ap (λ v. v *ℤ z) (zero-*ℤ y) ∙ zero-*ℤ z
 
 inputs_mono : (n : ℕ) (m : Exponents) (x : List ℤ) → length x ≡ n → cond (list_all (eqb 0) (drop n m)) (mono_value (take n m) x) (pos 0) ≡ mono_value m x
 inputs_mono zero m [] l = at_nothing m
@@ -68,10 +64,7 @@ inputs_mono (suc n) (e ∷ m) (a ∷ x) l = by (list_all (eqb 0) (drop n m)) _ _
   where
     by : (b : Bool) (y z : ℤ) → cond b y (pos 0) ≡ z → cond b (power a e *ℤ y) (pos 0) ≡ power a e *ℤ z
     by true y z h = ap (λ v. power a e *ℤ v) h
-    by false y z h = nothing (power a e) ∙ ap (λ v. power a e *ℤ v) h
-      where
-        nothing : (q : ℤ) → pos 0 ≡ q *ℤ pos 0
-        nothing q = omega (arith, ints)
+    by false y z h = sym (*ℤ-zero (power a e)) ∙ ap (λ v. power a e *ℤ v) h
 
 value_when : (b : Bool) (q : TermList) (x : List ℤ) → value (when b q) x ≡ cond b (value q x) (pos 0)
 value_when true q x = refl
@@ -92,10 +85,7 @@ times_when a true q x = refl
 times_when a false q x = drawn a (of_ℤ (pos 0)) false
 
 times_negated : (a : ℚ) (q : TermList) (x : List ℤ) → a *ℚ of_ℤ (value (negated q) x) ≡ neg_ℚ (a *ℚ of_ℤ (value q x))
-times_negated a q x = ap (λ z. a *ℚ z) (ap of_ℤ (value-negated q x) ∙ of_ℤ-neg_ℤ (value q x)) ∙ turn a (of_ℤ (value q x))
-  where
-    turn : (a v : ℚ) → a *ℚ neg_ℚ v ≡ neg_ℚ (a *ℚ v)
-    turn a v = ring (a ∷ v ∷ []) (λ ρ i j. simp (i, j, reads) (same_form _ _ _ refl))
+times_negated a q x = ap (λ z. a *ℚ z) (ap of_ℤ (value-negated q x) ∙ of_ℤ-neg_ℤ (value q x)) ∙ *ℚ-neg_ℚ a (of_ℤ (value q x))
 
 times_difference : (a : ℚ) (q r : TermList) (x : List ℤ) → a *ℚ of_ℤ (value (plus q (negated r)) x) ≡ a *ℚ of_ℤ (value q x) -ℚ a *ℚ of_ℤ (value r x)
 times_difference a q r x =
@@ -187,9 +177,6 @@ module _ (p : Pair) (d : ℕ) where
     by_sides o x a b c e f g =
         ap₂ ◌+ℚ◌ e (total-++ (worth o x) (unknowns_on p d New) (unknowns_on p d Old) ∙ ap₂ ◌+ℚ◌ (on_side New (worth o x) ∙ f) (on_side Old (worth o x) ∙ g))
 
-    times_zero : (a : ℚ) → a *ℚ of_ℤ (pos 0) ≡ of_ℤ (pos 0)
-    times_zero a = ring (a ∷ []) (λ ρ i. simp (i, read_nat ρ, reads) (same_form _ _ _ refl))
-
     -- the locations of which a duty speaks are there
     abbrev pub AreLocations : Duty → Type 0
     AreLocations (Along side n) = ((edge_at (system_of p side) n).from < (system_of p side).locs) × ((edge_at (system_of p side) n).to < (system_of p side).locs)
@@ -201,7 +188,7 @@ module _ (p : Pair) (d : ℕ) where
         let e = edge_at p.new n in
         let f = two_located New φ e.from e.to before (behind p.new.vars e) x h.0 h.1
         ∙ ap₂ ◌-ℚ◌ (is_potential New φ e.from before x x (λ m. before_value m x)) (is_potential New φ e.to (behind p.new.vars e) x (values e.update x) (λ m. behind_value p.new.vars e m x)) in
-        ap₂ ◌+ℚ◌ (by_sides (Along New n) x _ _ _ (times_zero t) f (double_zero Old _ (λ l i. times_zero (χ l i)))) (ap of_ℤ (value-negated e.cost.terms x) ∙ of_ℤ-neg_ℤ (value e.cost.terms x))
+        ap₂ ◌+ℚ◌ (by_sides (Along New n) x _ _ _ (*ℚ-zero t) f (double_zero Old _ (λ l i. *ℚ-zero (χ l i)))) (ap of_ℤ (value-negated e.cost.terms x) ∙ of_ℤ-neg_ℤ (value e.cost.terms x))
         ∙ shape _ (of_ℤ (value e.cost.terms x))
       where
         shape : (a c : ℚ) → (of_ℤ (pos 0) +ℚ (a +ℚ of_ℤ (pos 0))) +ℚ neg_ℚ c ≡ a -ℚ c
@@ -210,31 +197,28 @@ module _ (p : Pair) (d : ℕ) where
         let e = edge_at p.old n in
         let f = two_located Old χ e.to e.from (behind p.old.vars e) before x h.1 h.0
         ∙ ap₂ ◌-ℚ◌ (is_potential Old χ e.to (behind p.old.vars e) x (values e.update x) (λ m. behind_value p.old.vars e m x)) (is_potential Old χ e.from before x x (λ m. before_value m x)) in
-        ap (λ z. z +ℚ of_ℤ (value e.cost.terms x)) (by_sides (Along Old n) x _ _ _ (times_zero t) (double_zero New _ (λ l i. times_zero (φ l i))) f)
+        ap (λ z. z +ℚ of_ℤ (value e.cost.terms x)) (by_sides (Along Old n) x _ _ _ (*ℚ-zero t) (double_zero New _ (λ l i. *ℚ-zero (φ l i))) f)
         ∙ shape _ _ (of_ℤ (value e.cost.terms x))
       where
         shape : (a b c : ℚ) → (of_ℤ (pos 0) +ℚ (of_ℤ (pos 0) +ℚ (a -ℚ b))) +ℚ c ≡ c -ℚ (b -ℚ a)
         shape a b c = ring (a ∷ b ∷ c ∷ []) (λ ρ i j k. simp (i, j, k, read_nat ρ, reads) (same_form _ _ _ refl))
     left_is (AtExit New) x h l =
         let f = one_located New φ (exit_of p.new) itself x h ∙ is_potential New φ (exit_of p.new) itself x x (λ m. itself_value m x) in
-        ap (λ z. z +ℚ of_ℤ (pos 0)) (by_sides (AtExit New) x _ _ _ (times_zero t) f (double_zero Old _ (λ l i. times_zero (χ l i)))) ∙ shape _
+        ap (λ z. z +ℚ of_ℤ (pos 0)) (by_sides (AtExit New) x _ _ _ (*ℚ-zero t) f (double_zero Old _ (λ l i. *ℚ-zero (χ l i)))) ∙ shape _
       where
         shape : (a : ℚ) → (of_ℤ (pos 0) +ℚ (a +ℚ of_ℤ (pos 0))) +ℚ of_ℤ (pos 0) ≡ a
         shape a = ring (a ∷ []) (λ ρ i. simp (i, read_nat ρ, reads) (same_form _ _ _ refl))
     left_is (AtExit Old) x h l =
         let f = minus_located Old χ (exit_of p.old) itself x h ∙ ap neg_ℚ (is_potential Old χ (exit_of p.old) itself x x (λ m. itself_value m x)) in
-        ap (λ z. z +ℚ of_ℤ (pos 0)) (by_sides (AtExit Old) x _ _ _ (times_zero t) (double_zero New _ (λ l i. times_zero (φ l i))) f) ∙ shape _
+        ap (λ z. z +ℚ of_ℤ (pos 0)) (by_sides (AtExit Old) x _ _ _ (*ℚ-zero t) (double_zero New _ (λ l i. *ℚ-zero (φ l i))) f) ∙ shape _
       where
         shape : (a : ℚ) → (of_ℤ (pos 0) +ℚ (of_ℤ (pos 0) +ℚ neg_ℚ a)) +ℚ of_ℤ (pos 0) ≡ of_ℤ (pos 0) -ℚ a
         shape a = ring (a ∷ []) (λ ρ i. simp (i, read_nat ρ, reads) (same_form _ _ _ refl))
     left_is (AtEntry n) x h l =
-        let b = ap (λ z. t *ℚ of_ℤ z) (value-constant (pos 1) p.new.params x) ∙ times_one t in
+        let b = ap (λ z. t *ℚ of_ℤ z) (value-constant (pos 1) p.new.params x) ∙ *ℚ-one t in
         let f = minus_located New φ 0 (at_inputs p.new.params) x h.0 ∙ ap neg_ℚ (is_potential New φ 0 (at_inputs p.new.params) x x (λ m. inputs_value p.new.params m x l)) in
         let g = one_located Old χ 0 (at_inputs p.new.params) x h.1 ∙ is_potential Old χ 0 (at_inputs p.new.params) x x (λ m. inputs_value p.new.params m x l) in
         ap (λ z. z +ℚ of_ℤ (pos 0)) (by_sides (AtEntry n) x _ _ _ b f g) ∙ shape t _ _
       where
-        times_one : (a : ℚ) → a *ℚ of_ℤ (pos 1) ≡ a
-        times_one a = ring (a ∷ []) (λ ρ i. simp (i, read_nat ρ, reads) (same_form _ _ _ refl))
-
         shape : (t a b : ℚ) → (t +ℚ (neg_ℚ a +ℚ b)) +ℚ of_ℤ (pos 0) ≡ (t -ℚ a) +ℚ b
         shape t a b = ring (t ∷ a ∷ b ∷ []) (λ ρ i j k. simp (i, j, k, read_nat ρ, reads) (same_form _ _ _ refl))

@@ -4,7 +4,7 @@ use Rattle.std.specs.List.{range_with_len, AllByRecursion}
 use Rattle.std.proofs.Common.{refl, sym, ◌∙◌, ap, ap₂, subst, arith, inl, inr}
 use Rattle.std.proofs.lemmas.Option.{slice_get_within}
 use Rattle.dc_math.specs.Members.{each_all, each-++, each-map, each-flat_map, get_each}
-use Rattle.dc_math.specs.Rational.{ℚ, ◌+ℚ◌, ◌-ℚ◌, ◌*ℚ◌, of_ℤ, ◌≤ℚ◌, ≤ℚ_refl, ≤ℚ_total, ≤ℚ-sub, NonNegative}
+use Rattle.dc_math.specs.Rational.{ℚ, ◌+ℚ◌, ◌-ℚ◌, ◌*ℚ◌, of_ℤ, ◌≤ℚ◌, ≤ℚ_refl, ≤ℚ_total, ≤ℚ-sub, NonNegative, +ℚ-zero, *ℚ-zero}
 use Rattle.dc_math.specs.RationalRing.{ring, reads, read_nat, same_form}
 use Rattle.dc_syntax.specs.declared.tree.Side.{Side}
 use Rattle.dc_syntax.specs.declared.tree.Side.TheVariants.{New, Old}
@@ -17,7 +17,7 @@ use Rattle.dc_claims.specs.Parts.{unknowns_at, unknowns_on, unknowns_of}
 use Rattle.dc_claims.specs.Problems.{Column, Plus, Minus, Times, both_signs, products_at, multipliers_at, columns_of, cost_in, cost_or_zero}
 use Rattle.dc_claims.specs.Claims.{Potential, Multipliers}
 use Rattle.dc_claims.specs.Laws.{unknown_value, IsSplit, SplitsExist, SolutionsSplit, SplitsCost}
-use Rattle.dc_claims.proofs.Totals.{total, plus_zero, total_zero, eqb_same}
+use Rattle.dc_claims.proofs.Totals.{total, total_zero, eqb_same}
 use Rattle.dc_claims.proofs.Counting.{passing, passing-++, passing-map, none_mapped, none_flat, flat_at_most, range_once}
 use Rattle.dc_claims.proofs.Owed.{same_duty_refl, occurs_at_most}
 use Rattle.dc_claims.proofs.Rows.{sum_is_row, columns_row}
@@ -253,10 +253,7 @@ module _ (p : Pair) (d k : ℕ) (f : Flags) (x : ℕ → ℚ) where
 -- ---- the cost
 total_nothing : {A : Type 0} (g : A → ℚ) (xs : List A) → AllByRecursion (λ y. g y ≡ of_ℤ (pos 0)) xs → total g xs ≡ of_ℤ (pos 0)
 total_nothing g [] h = refl
-total_nothing g (y ∷ xs) h = ap₂ ◌+ℚ◌ h.0 (total_nothing g xs h.1) ∙ plus_zero (of_ℤ (pos 0))
-
-times_zero : (a : ℚ) → a *ℚ of_ℤ (pos 0) ≡ of_ℤ (pos 0)
-times_zero a = ring (a ∷ []) (λ ρ i. simp (i, read_nat ρ, reads) (same_form _ _ _ refl))
+total_nothing g (y ∷ xs) h = ap₂ ◌+ℚ◌ h.0 (total_nothing g xs h.1) ∙ +ℚ-zero (of_ℤ (pos 0))
 
 cost_opposite : (p : Pair) (d k : ℕ) (u : Unknown) → cost_in (Minus u) ≡ neg_ℤ (cost_in (Plus u))
 cost_opposite p d k Bound = refl
@@ -267,13 +264,13 @@ splits_cost p d k f x t φ χ multipliers s =
     sum_is_row (cost_or_zero) x (columns_of p d k f)
     ∙ columns_row x t φ χ multipliers (cost_in) (cost_opposite p d k) p d k f s
     ∙ ap₂ (λ y z. (t *ℚ of_ℤ (pos 1) +ℚ y) +ℚ z) (total_nothing _ (unknowns_on p d New ++ unknowns_on p d Old) (each-++ _ (unknowns_on p d New) (unknowns_on p d Old) (free New) (free Old)))
-    (total_zero _ (duties_of f) (λ o. total_zero _ (range_with_len 0 (length (products_at p k o))) (λ i. times_zero (multipliers o i))))
+    (total_zero _ (duties_of f) (λ o. total_zero _ (range_with_len 0 (length (products_at p k o))) (λ i. *ℚ-zero (multipliers o i))))
     ∙ shape t
   where
     free : (side : Side) → AllByRecursion (λ u. unknown_value t φ χ u *ℚ of_ℤ (cost_in (Plus u)) ≡ of_ℤ (pos 0)) (unknowns_on p d side)
     free side =
         each-flat_map (λ u. unknown_value t φ χ u *ℚ of_ℤ (cost_in (Plus u)) ≡ of_ℤ (pos 0)) (unknowns_at p d side) _
-        (each_all _ _ (λ l. each-map (λ u. unknown_value t φ χ u *ℚ of_ℤ (cost_in (Plus u)) ≡ of_ℤ (pos 0)) (Coefficient side l) _ (each_all _ _ (λ i. times_zero (unknown_value t φ χ (Coefficient side l i))))))
+        (each_all _ _ (λ l. each-map (λ u. unknown_value t φ χ u *ℚ of_ℤ (cost_in (Plus u)) ≡ of_ℤ (pos 0)) (Coefficient side l) _ (each_all _ _ (λ i. *ℚ-zero (unknown_value t φ χ (Coefficient side l i))))))
 
     shape : (t : ℚ) → (t *ℚ of_ℤ (pos 1) +ℚ of_ℤ (pos 0)) +ℚ of_ℤ (pos 0) ≡ t
     shape t = ring (t ∷ []) (λ ρ i. simp (i, read_nat ρ, reads) (same_form _ _ _ refl))

@@ -3,6 +3,7 @@ use Rattle.std.specs.Prelude.{◌≡◌, ℕ, zero, suc, ◌≤◌, ◌<◌, con
 use Rattle.std.specs.Option.{option_and_then}
 use Rattle.std.proofs.Common.{refl, sym, ◌∙◌, ap, arith}
 use Rattle.std.proofs.lemmas.Bool.{eq-eqb, ne_eqb}
+use Rattle.std.proofs.lemmas.Option.{same_Some}
 use Rattle.dc_math.specs.Rational.{ℚ, of_ℤ}
 use Rattle.dc_frac.specs.declared.Frac.{Frac}
 use Rattle.dc_frac.specs.Value.{value}
@@ -15,9 +16,6 @@ use Rattle.dc_cert.specs.Vectors.{AreItems, IsDense, entry_after, entry_of}
 use Rattle.dc_cert.proofs.Returned.{entry-before}
 use Rattle.dc_clauses.specs.Items.{items_sum, sum_over, SumsOverItems}
 use Rattle.dc_clauses.proofs.Items.{folded_same, folded-zeros, folded-step, items_sum-folded}
-
-item_same : (b i : Item) → Some b ≡ Some i → b ≡ i
-item_same b i e = cc
 
 nothing_some : (i : Item) → ◌≡◌ {A = Option Item} None (Some i) → ⊥
 nothing_some i e = cc
@@ -37,7 +35,7 @@ first_sum : (low k : ℕ) (a : ℕ → ℤ) (x : ℕ → ℚ) (is : List Item) (
     → items_sum a (folded low a x) (take k is) ≡ folded i.index a x
 first_sum low k a x [] i h e f = absurd (nothing_some i e)
 first_sum low zero a x (b ∷ is) i h e f =
-    sym (folded-zeros low b.index a x h.0 (λ j l m. f j l ∙ before low b is h j m)) ∙ ap (λ (z : Item). folded z.index a x) (item_same b i e)
+    sym (folded-zeros low b.index a x h.0 (λ j l m. f j l ∙ before low b is h j m)) ∙ ap (λ (z : Item). folded z.index a x) (same_Some b i e)
 first_sum low (suc k) a x (b ∷ is) i h e f =
     let gap : folded b.index a x ≡ folded low a x = folded-zeros low b.index a x h.0 (λ j l m. f j l ∙ before low b is h j m) in
     let here : x b.index ≡ value b.value = f b.index h.0 ∙ there low b is h in

@@ -1,5 +1,5 @@
 -- Monomials that are put into a list in graded order.
-use Rattle.std.specs.Prelude.{◌≡◌, ◌⊎◌, ℕ, zero, suc, ◌+◌, ◌<◌, ◌≤◌, List, [], ◌∷◌, ◌++◌, length, take, drop, insert, slice_index_or}
+use Rattle.std.specs.Prelude.{◌≡◌, ◌⊎◌, ℕ, zero, suc, ◌+◌, ◌<◌, ◌≤◌, List, [], ◌∷◌, ◌++◌, length, drop, insert, slice_index_or}
 use Rattle.std.specs.List.{AllByRecursion}
 use Rattle.std.proofs.lemmas.Bool.{cases_lt}
 use Rattle.std.specs.declared.cmp.Ordering.{Ordering}
@@ -146,10 +146,6 @@ all_above ms m i o b k h l = elim (cases_lt i k) [
   | inl a ↦ Before-trans m (slice_index_or ms i []) _ b (index-before ms i k o a l)
   | inr a ↦ subst (λ j. Before m (slice_index_or ms j [])) (let e : i ≡ k = omega arith in e) b
 ]
-
--- what a comparison tells
-pub told : (m k : Exponents) (o : Ordering) → o ≡ graded m k → Told m k o
-told m k o e = subst (Told m k) (sym e) (graded_told m k)
 
 -- ---- one more
 pub more_terms : (p : TermList) (i : ℕ) (t : Term) (ms : List Exponents) → i < length p → t ≡ slice_index_or p i t

@@ -9,7 +9,7 @@ use Rattle.dc_math.specs.OrderedLists.{Ordered}
 use Rattle.dc_lp.specs.declared.Entry.{Entry}
 use Rattle.dc_poly.specs.declared.monomial.Term.{Term}
 use Rattle.dc_poly.specs.Terms.{Exponents, TermList, Before, Ahead, Canonical, same_mono, coef}
-use Rattle.dc_poly.proofs.Graded.{Before-not, Before-trans}
+use Rattle.dc_poly.proofs.Graded.{Before-not, Ahead-more}
 use Rattle.dc_poly.proofs.Canon.{same_mono_refl, same_mono_is, coef_ahead}
 use Rattle.dc_coefficients.specs.Entries.{entry, entry_at, entries_from}
 use Rattle.dc_coefficients.proofs.Rows.{entries_from-++}
@@ -41,10 +41,6 @@ narrowed m ms (t ∷ p) a h = elim (among_cons h.0) [
   | inr i ↦ (i, narrowed m ms p a.1 h.1)
 ]
 
-ahead_more : (m k : Exponents) (p : TermList) → Before m k → Ahead k p → Ahead m p
-ahead_more m k [] b h = tt
-ahead_more m k (t ∷ p) b h = (Before-trans m k t.mono b h.0, ahead_more m k p b h.1)
-
 not_later : (m k : Exponents) (ms : List Exponents) → AllByRecursion (Before m) ms → Among k ms → ¬ (m ≡ k)
 not_later m k ms b i e = Before-not m (subst (λ x. Before m x) (sym e) (each_among (Before m) b i))
 
@@ -67,7 +63,7 @@ miss f m ms t p h n = by (among_cons h.listed.0)
     by (inl e) = absurd (n e)
     by (inr i) =
         let b : Before m t.mono = each_among (Before m) h.in_order.0 i in
-        let a : Ahead m (t ∷ p) = (b, ahead_more m t.mono p b h.canonical.1) in (
+        let a : Ahead m (t ∷ p) = (b, Ahead-more m t.mono p b h.canonical.1) in (
           record { in_order = h.in_order.1; canonical = h.canonical; listed = narrowed m ms (t ∷ p) a h.listed; same = λ k j. h.same k (tail j) },
           h.same m head ∙ coef_ahead m (t ∷ p) a,
         )

@@ -2,6 +2,7 @@
 use Rattle.std.proofs.Common.{◌≡◌, ℕ, ◌+◌, ◌*◌, ◌<◌, Bool, true, false, cond, ◌&&◌, ◌||◌, ◌==◌, List, [], ◌++◌, length, set, take, drop, Option, Some, None, refl, sym, ◌∙◌, ap, ap₂, arith}
 use Rattle.std.proofs.lemmas.List.FromFn.{get_or-map-range_with_len, length-map-range_with_len, fill_by_all}
 use Rattle.std.proofs.lemmas.Grind.{common_steps}
+use Rattle.std.proofs.Math.Bool.{or_assoc}
 use Rattle.dc_math.specs.Rational.{ℚ, ◌*ℚ◌, ◌-ℚ◌}
 use Rattle.dc_math.specs.Inverse.{◌/ℚ◌}
 use Rattle.dc_math.specs.RationalField.{rationals}
@@ -20,10 +21,6 @@ use Rattle.dc_dense.proofs.Flats.{flat-at}
 
 pub made-same : {A : Type 0} (n : ℕ) (f g : ℕ → A) → ((i : ℕ) → i < n → f i ≡ g i) → made n f ≡ made n g
 made-same n f g h = sym (fill_by_all f (made n f) n (f 0) (length-map-range_with_len f 0 n) (λ k l. get_or-map-range_with_len f 0 n k k (f 0) l (omega arith))) ∙ fill_by_all g (made n f) n (f 0) (length-map-range_with_len f 0 n) (λ k l. get_or-map-range_with_len f 0 n k k (f 0) l (omega arith) ∙ h k l)
-
-or_assoc : (a b c : Bool) → a || (b || c) ≡ a || b || c
-or_assoc true b c = refl
-or_assoc false b c = refl
 
 module _ (real h w : ℕ) (basis : List ℕ) (xs : List Frac) (tall : h ≡ length basis + 2) (wide : w ≡ real + length basis + 1) where
   abbrev table : Table ℚ
@@ -68,7 +65,7 @@ module _ (real h w : ℕ) (basis : List ℕ) (xs : List Frac) (tall : h ≡ leng
     step-flat : (i k : ℕ) → i < h → k < w → (k == j || tests.is_zero (divided table r j k) || product_fits (at table i j) (divided table r j k) && difference_fits (at table i k) (at table i j *ℚ divided table r j k))
         ≡ cell_fits (item xs (i * w + j)) (item xs (r * w + k) /ℚ item xs (r * w + j)) (item xs (i * w + k)) k
     step-flat i k li lk =
-        sym (or_assoc (k == j) (tests.is_zero (divided table r j k)) (product_fits (at table i j) (divided table r j k) && difference_fits (at table i k) (at table i j *ℚ divided table r j k)))
+        sym (sym (or_assoc (k == j) (tests.is_zero (divided table r j k)) (product_fits (at table i j) (divided table r j k) && difference_fits (at table i k) (at table i j *ℚ divided table r j k))))
         ∙ ap (λ x. cell_fits (at table i j) x (at table i k) k) (divided-at k lk)
         ∙ ap (λ x. cell_fits x (item xs (r * w + k) /ℚ item xs (r * w + j)) (at table i k) k) (table-at i j li lj)
         ∙ ap (λ x. cell_fits (item xs (i * w + j)) (item xs (r * w + k) /ℚ item xs (r * w + j)) x k) (table-at i k li lk)
@@ -76,7 +73,7 @@ module _ (real h w : ℕ) (basis : List ℕ) (xs : List Frac) (tall : h ≡ leng
     row-flat : (i : ℕ) → i < h → (i == r || reduction_fits table r j i) ≡ (i == r || tests.is_zero (item xs (i * w + j)) || all_below w (λ k. k == j || step_fits (item xs (i * w + j)) (item xs (r * w + k) /ℚ item xs (r * w + j)) (item xs (i * w + k))))
     unfolding reduction_fits
     row-flat i li =
-        or_assoc (i == r) (tests.is_zero (at table i j)) _
+        sym (or_assoc (i == r) (tests.is_zero (at table i j)) _)
         ∙ ap (λ b. i == r || b || all_below (real + length basis + 1) (λ k. k == j || tests.is_zero (divided table r j k) || product_fits (at table i j) (divided table r j k) && difference_fits (at table i k) (at table i j *ℚ divided table r j k))) (zero-at i j li lj)
         ∙ ap (λ x. i == r || tests.is_zero (item xs (i * w + j)) || all_below x (λ k. k == j || tests.is_zero (divided table r j k) || product_fits (at table i j) (divided table r j k) && difference_fits (at table i k) (at table i j *ℚ divided table r j k))) (sym wide)
         ∙ ap (λ b. i == r || tests.is_zero (item xs (i * w + j)) || b) (all_below-same w _ _ (λ k lk. step-flat i k li lk))

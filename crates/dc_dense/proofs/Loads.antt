@@ -1,19 +1,11 @@
 -- The starting table in one list.
-use Rattle.std.proofs.Common.{◌≡◌, ◌≢◌, ℕ, zero, suc, ◌+◌, ◌*◌, ◌<◌, ◌≤◌, true, false, ◌==◌, List, [], ◌∷◌, ◌++◌, length, refl, sym, ◌∙◌, ap, ap₂, subst, arith, inl, inr, eq-eqb, below_more, nat_lt, add-one, None, slice_index_or}
-use Rattle.std.specs.Prelude.{ℤ, pos, neg_ℤ, ◌-ℤ◌, int_lt}
-use Rattle.std.proofs.lemmas.Bool.{cases_Bool, ne_eqb, ltb-true, ltb-false}
-use Rattle.std.proofs.lemmas.Int.{ints}
-use Rattle.std.proofs.lemmas.List.FromFn.{map-range_with_len_more, length-map-range_with_len}
+use Rattle.std.proofs.Common.{◌≡◌, ℕ, zero, suc, ◌+◌, ◌*◌, ◌<◌, true, false, List, [], ◌∷◌, ◌++◌, length, refl, sym, ◌∙◌, ap, subst, arith, below_more, None}
 use Rattle.std.proofs.Math.ListN.{length-append}
-use Rattle.dc_math.specs.Rational.{ℚ, of_ℤ, neg_ℚ, ◌+ℚ◌, of_ℤ-+ℤ}
-use Rattle.dc_math.specs.RationalField.{rationals}
-use Rattle.dc_math.specs.Order.{of_ℤ-neg_ℤ, of_ℤ-<}
-use Rattle.dc_math.specs.Signs.{of_ℤ-≤}
-use Rattle.dc_math.specs.Tests.{le_ℚ-true, le_ℚ-false}
+use Rattle.dc_math.specs.Rational.{ℚ}
 use Rattle.dc_frac.specs.declared.Frac.{Frac}
 use Rattle.dc_frac.specs.Value.{value}
 use Rattle.dc_lp.specs.declared.Problem.{Problem}
-use Rattle.dc_lp.specs.Problems.{coefficient, whole_at, linear_of, columns}
+use Rattle.dc_lp.specs.Problems.{columns}
 use Rattle.dc_lp.specs.Tables as tables
 use Rattle.dc_lp.specs.Tables.{made}
 use Rattle.dc_lp.specs.Meanings.{Meaning, resting, start}
@@ -81,8 +73,5 @@ pub loaded-at : (p : Problem) (n : ℕ) (xs : List Frac) (bs : List ℕ) → n �
 loaded-at p n xs bs e h k =
     subst (λ m. bs ≡ made p.rows (λ i. m + i) → ◌≡◌ {A = Meaning} (record { loaded = true; broken = false; ready = None; table = record { real = m; rows = flat (p.rows + 2) (m + p.rows + 1) xs; basis = bs } }) (resting (start p)))
     (sym e) (loaded p xs bs h) k
-
-pub made-length : (n : ℕ) (f : ℕ → ℕ) → length (made n f) ≡ n
-made-length n f = length-map-range_with_len f 0 n
 
 pub ruleset loads = (rows-start, rows-more, rows-next)

@@ -1,12 +1,12 @@
 -- Monomials at states.
-use Rattle.std.specs.Prelude.{◌≡◌, ◌⊎◌, ℕ, zero, suc, ◌+◌, ◌-◌, ◌*◌, ◌^◌, ◌<◌, ◌≤◌, List, [], ◌∷◌, ◌++◌, map, length, take, drop, replicate, slice_index_or, All, ℤ, pos, ◌*ℤ◌, Bool, true, false, eqb, Result, Ok, Err, IfOk}
+use Rattle.std.specs.Prelude.{◌≡◌, ℕ, zero, suc, ◌+◌, ◌-◌, ◌*◌, ◌^◌, ◌<◌, ◌≤◌, List, [], ◌∷◌, ◌++◌, map, length, take, drop, replicate, slice_index_or, All, ℤ, pos, ◌*ℤ◌, Bool, true, false, eqb, Result, Ok, Err, IfOk}
 use Rattle.std.specs.List.{range_with_len, list_all}
 use Rattle.std.proofs.Common.{refl, sym, ◌∙◌, ap, ap₂, subst, arith, inl, inr, length-append}
 use Rattle.std.proofs.lemmas.Bool.{cases_lt}
 use Rattle.std.proofs.lemmas.List.FromFn.{get_or-map-range_with_len, length-map-range_with_len}
 use Rattle.std.proofs.lemmas.List.{length-replicate}
-use Rattle.dc_poly.specs.Terms.{Exponents, TermList, degree, mono_value, power, front, others, value, Polynomial, polynomial, IsPolynomial, weight, Canonical, Places, term}
-use Rattle.dc_poly.specs.Sums.{constant, variable, constant_of, variable_of, values, composed, negated, plus}
+use Rattle.dc_poly.specs.Terms.{Exponents, TermList, degree, mono_value, power, front, others, value, Polynomial, IsPolynomial, weight, Canonical, Places, term}
+use Rattle.dc_poly.specs.Sums.{constant, variable, variable_of, values}
 use Rattle.dc_poly.specs.Conditions.{HavePlaces}
 use Rattle.dc_poly.specs.NormalForm.{IsNormalForm, normal_weight}
 use Rattle.dc_poly.proofs.Sizes.{power_more}
@@ -16,6 +16,7 @@ use Rattle.dc_poly.proofs.Degrees.{degree-unit_at}
 use Rattle.dc_template.specs.Columns.{column_places}
 use Rattle.dc_system.specs.declared.edges.Edge.{Edge}
 use Rattle.dc_system.specs.Shapes.{IsEdge}
+use Rattle.dc_system.proofs.Points.{values-++}
 use Rattle.dc_claims.specs.Parts.{when, before, behind, itself, at_inputs}
 use Rattle.dc_claims.proofs.PartValues.{before_value, behind_value, itself_value, inputs_value}
 use Rattle.dc_claims.proofs.Fits.{Places-before, Places-itself, Places-behind, Places-inputs}
@@ -70,10 +71,6 @@ unchanged_value m places xs h = mono_agree m _ xs (λ k l. variable_there (lengt
 -- ---- with 0 for the locals
 abbrev pub starting : ℕ → ℕ → List Polynomial
 starting params more = variables params params ++ replicate more (constant (pos 0) params)
-
-values-++ : (us vs : List Polynomial) (xs : List ℤ) → values (us ++ vs) xs ≡ values us xs ++ values vs xs
-values-++ [] vs xs = refl
-values-++ (u ∷ us) vs xs = ap (λ q. value u.terms xs ∷ q) (values-++ us vs xs)
 
 values-zeros : (n params : ℕ) (xs : List ℤ) → values (replicate n (constant (pos 0) params)) xs ≡ replicate n (pos 0)
 values-zeros zero params xs = refl

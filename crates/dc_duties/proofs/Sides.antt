@@ -1,5 +1,5 @@
 -- Results and sides.
-use Rattle.std.specs.Prelude.{◌≡◌, ◌≢◌, ℕ, zero, suc, ◌+◌, ◌*◌, ◌^◌, ◌<◌, ◌≤◌, Bool, true, false, eqb, if◌then◌else◌, List, [], ◌∷◌, ◌++◌, length, slice_index_or, unsigned_abs, ℤ, pos, All, Result, Ok, Err, IfOk}
+use Rattle.std.specs.Prelude.{◌≡◌, ◌≢◌, ℕ, zero, suc, ◌<◌, ◌≤◌, true, false, eqb, List, [], ◌∷◌, length, slice_index_or, unsigned_abs, ℤ, pos, All, Result, Ok, Err, IfOk}
 use Rattle.std.specs.List.{AllByRecursion}
 use Rattle.std.proofs.Common.{refl, sym, ◌∙◌, ap, ap₂, subst, arith, eq-eqb, length-append}
 use Rattle.std.proofs.lemmas.Bool.{ne_eqb}
@@ -7,8 +7,8 @@ use Rattle.dc_syntax.specs.declared.tree.Side.{Side}
 use Rattle.dc_syntax.specs.declared.tree.Side.TheVariants.{New, Old}
 use Rattle.dc_poly.specs.Terms.{TermList, Polynomial, IsPolynomial, weight}
 use Rattle.dc_poly.specs.Sums.{constant, constant_of, sum_of, negation_of, plus, negated}
-use Rattle.dc_poly.specs.NormalForm.{IsNormalForm, normal_weight}
-use Rattle.dc_poly.specs.Conditions.{CanAdd, HavePlaces}
+use Rattle.dc_poly.specs.NormalForm.{IsNormalForm}
+use Rattle.dc_poly.specs.Conditions.{CanAdd}
 use Rattle.dc_poly.proofs.FewTerms.{normal_light}
 use Rattle.dc_poly.proofs.Sizes.{weight-constant, weight-plus, weight-negated}
 use Rattle.dc_affine.specs.declared.atom.Atom.{Atom}
@@ -145,10 +145,6 @@ pub all_normal : (n : ℕ) (us : List Polynomial) → AllByRecursion (IsForm n) 
 all_normal n [] h k d l = absurd (omega arith)
 all_normal n (u ∷ us) h zero d l = h.0.narrow
 all_normal n (u ∷ us) h (suc k) d l = all_normal n us h.1 k d (omega arith)
-
-pub all_places : (n : ℕ) (us : List Polynomial) → AllByRecursion (IsForm n) us → HavePlaces n us
-all_places n [] h = tt
-all_places n (u ∷ us) h = (h.0.has_places, all_places n us h.1)
 
 -- ---- an element of a list that is known by its parts
 pub indexed : {A : Type 0} (xs ys : List A) (i : ℕ) (x d : A) → xs ≡ ys → i < length ys → x ≡ slice_index_or xs i x → x ≡ slice_index_or ys i d

@@ -1,17 +1,17 @@
 -- Where every problem comes to its end, the certificate of an analysis is made.
-use Rattle.std.specs.Prelude.{flat_map, ◌≡◌, ℕ, ◌≤◌, Bool, List, [], ◌∷◌, ◌++◌, map, length, None}
+use Rattle.std.specs.Prelude.{◌≡◌, ℕ, ◌≤◌, Bool, List, [], ◌∷◌, ◌++◌, map, length, None}
 use Rattle.std.specs.List.{AllByRecursion}
 use Rattle.std.proofs.Common.{refl, sym, ◌∙◌, subst, arith}
 use Rattle.std.proofs.lemmas.List.{length-map}
-use Rattle.dc_math.specs.Members.{each-++}
 use Rattle.dc_math.specs.Rational.{ℚ}
 use Rattle.dc_syntax.specs.declared.tree.Proc.{Proc}
 use Rattle.dc_syntax.specs.declared.tree.Side.{Side}
 use Rattle.dc_syntax.specs.declared.tree.Side.TheVariants.{New, Old}
 use Rattle.dc_affine.specs.declared.atom.Atom.{Atom}
-use Rattle.dc_affine.specs.Atoms.{IsFullAtom, IsAtom, AllCases}
+use Rattle.dc_affine.specs.Atoms.{IsFullAtom, AllCases}
+use Rattle.dc_affine.proofs.Within.{flat_atoms}
 use Rattle.dc_lp.specs.Tables.{Table}
-use Rattle.dc_program.specs.Programs.{IsProgram, AllShort}
+use Rattle.dc_program.specs.Programs.{IsProgram}
 use Rattle.dc_system.specs.declared.edges.System.{System}
 use Rattle.dc_system.specs.Systems.{system_of, size_fault}
 use Rattle.dc_system.specs.Folded.{IsFolded}
@@ -26,9 +26,9 @@ use Rattle.dc_families.specs.Rounds.{IsInductive, IsGreatest}
 use Rattle.dc_families.proofs.Folds.{systems_are_graphs}
 use Rattle.dc_families.proofs.Prunes.{printed_are_inductive}
 use Rattle.dc_points.specs.Flags.{AreFlags}
+use Rattle.dc_points.proofs.Flags.{flags_many}
 use Rattle.dc_invariant.specs.Prunes.{questions_asked}
 use Rattle.dc_invariant.specs.Keeps.{kept_atoms, keeps_asked}
-use Rattle.dc_invariant.proofs.Kept.{flags_many}
 use Rattle.dc_invariant.proofs.Tells.{full_atoms}
 use Rattle.dc_invariant.proofs.Whole.{printed_are_atoms}
 use Rattle.dc_claims.specs.Plans.{AreAtoms, IsPlan, IsCase, IsPair, IsFit}
@@ -44,8 +44,10 @@ use Rattle.dc_endings.specs.Laws.{EachIsMade}
 use Rattle.dc_endings.proofs.Starts.{IsLight}
 use Rattle.dc_endings.proofs.Vectors.{has_body}
 use Rattle.dc_endings.proofs.Shown.{done_ended}
-use Rattle.dc_endings.proofs.Sides.{done_parts, case_lines, has_side}
+use Rattle.dc_endings.proofs.Sides.{case_lines, has_side}
 use Rattle.dc_endings.proofs.Mains.{main_light}
+use Rattle.dc_check.proofs.Fitting.{condition_cases}
+use Rattle.dc_greatest.proofs.Searching.{done_parts}
 
 -- ---- one version
 module _ (i : Input) (p : Proc) (s : System) (program : IsProgram p) (size : size_fault p ≡ None) (folded : IsFolded (system_of p) s) where
@@ -89,14 +91,6 @@ module _ (i : Input) (p : Proc) (s : System) (program : IsProgram p) (size : siz
         (x.made, record { part = x.part; exit = x.exit_flag })
 
 -- ---- the cases
-are_cases : (n : ℕ) (cases : List (List Atom)) → AllShort 130 cases → AllCases (IsFullAtom n) cases → AllByRecursion (IsCase n) cases
-are_cases n [] h g = tt
-are_cases n (case ∷ cases) h g = (record { few = (let l = h.0 in omega arith); within = full_atoms n n case refl g.0 }, are_cases n cases h.1 g.1)
-
--- the atoms of all cases
-flat_atoms : (n : ℕ) (cases : List (List Atom)) → AllCases (IsFullAtom n) cases → AllByRecursion (IsAtom n) (flat_map (λ case. case) cases)
-flat_atoms n [] h = tt
-flat_atoms n (case ∷ cases) h = each-++ (IsAtom n) case (flat_map (λ case. case) cases) (full_atoms n n case refl h.0) (flat_atoms n cases h.1)
 
 -- ---- the whole
 module _ (i : Input) (a : Analysis) (input : IsInput i) (h : IsThrough i a) where
@@ -147,7 +141,7 @@ module _ (i : Input) (a : Analysis) (input : IsInput i) (h : IsThrough i a) wher
     cases = record {
       some = input.condition.some;
       few = input.condition.few;
-      each = subst (λ n. AllByRecursion (IsCase n) i.cases) (sym new_params) (are_cases i.new.params i.cases input.condition.short new_cases);
+      each = subst (λ n. AllByRecursion (IsCase n) i.cases) (sym new_params) (condition_cases i.new.params i.cases input.condition.short new_cases);
     };
   }
 

@@ -4,12 +4,12 @@ use Rattle.std.specs.List.{AllByRecursion, range_with_len}
 use Rattle.std.proofs.Common.{refl, sym, ◌∙◌, ap, subst, arith, inl, inr}
 use Rattle.std.proofs.Math.Nat.{mul-le-mul_right}
 use Rattle.std.proofs.lemmas.Bool.{cases_lt}
-use Rattle.std.proofs.lemmas.Int.{ints}
 use Rattle.std.proofs.lemmas.List.{get_or_past}
 use Rattle.std.proofs.lemmas.List.Elements.{recursion_from_All}
 use Rattle.std.proofs.lemmas.List.Sums.{sum_by-cons, sum_by-append}
 use Rattle.dc_math.specs.Members.{each_all, each_at, each-weaker, each-++, each-map, each-flat_map, get_each}
 use Rattle.dc_math.specs.OrderedLists.{Ordered}
+use Rattle.dc_math.specs.Integers.{size-neg_ℤ}
 use Rattle.dc_syntax.specs.declared.tree.Side.{Side}
 use Rattle.dc_syntax.specs.declared.tree.Side.TheVariants.{New, Old}
 use Rattle.dc_poly.specs.Terms.{Exponents, TermList, Before, Polynomial, polynomial, term, coef, degree, degree_of, weight}
@@ -57,15 +57,12 @@ sum_mapped e v (m ∷ ms) =
     sum_by-cons (λ q. unsigned_abs (v q)) (e m) (map e ms) ∙ ap (λ n. unsigned_abs (v (e m)) + n) (sum_mapped e v ms)
     ∙ sym (sum_by-cons unsigned_abs (v (e m)) (map (λ i. v (e i)) ms))
 
-neg_size : (z : ℤ) → unsigned_abs (neg_ℤ z) ≡ unsigned_abs z
-neg_size z = omega (arith, ints)
-
 sum_negated : {A : Type 0} (v : A → ℤ) (ms : List A) → sum_by unsigned_abs (map (λ m. neg_ℤ (v m)) ms) ≡ sum_by unsigned_abs (map v ms)
 sum_negated v [] = refl
 sum_negated v (m ∷ ms) =
     let a = sum_by-cons unsigned_abs (neg_ℤ (v m)) (map (λ i. neg_ℤ (v i)) ms) in
     let b = sum_by-cons unsigned_abs (v m) (map v ms) in
-    let c = neg_size (v m) in
+    let c = size-neg_ℤ (v m) in
     let d = sum_negated v ms in
     omega arith
 

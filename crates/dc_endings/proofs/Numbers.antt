@@ -1,43 +1,35 @@
 -- Numbers that fit 128 bits, and the vectors of fractions that have them.
-use Rattle.std.specs.Prelude.{◌≡◌, ℕ, zero, suc, ◌<◌, ◌≤◌, Bool, true, false, ◌&&◌, nat_lt, List, [], ◌∷◌, ℤ, pos, unsigned_abs}
+use Rattle.std.specs.Prelude.{◌≡◌, ℕ, zero, suc, ◌<◌, true, ◌&&◌, nat_lt, List, [], ◌∷◌, ℤ, pos, unsigned_abs}
 use Rattle.std.proofs.Common.{refl, ◌∙◌, ap, arith}
 use Rattle.std.proofs.lemmas.Bool.{and_parts}
-use Rattle.std.proofs.lemmas.Grind.{common_steps}
 use Rattle.dc_math.specs.Rational.{ℚ, Fraction, fraction_of, of_ℤ, of_ℤ_is, neg_ℚ}
 use Rattle.dc_math.specs.Lowest.{lowest, ratio-lowest, lowest_reduced, lowest-of_reduced}
+use Rattle.dc_math.specs.Integers.{size-neg_ℤ}
 use Rattle.dc_frac.specs.Fits.{IsSmall, is_small, fits}
 use Rattle.dc_frac.proofs.ShortWays.{gcd_nat_one}
 use Rattle.std.specs.Prelude.{◌^◌}
-use Rattle.std.proofs.lemmas.Bool.{ltb-false, and_from}
+use Rattle.std.proofs.lemmas.Bool.{and_from}
 use Rattle.dc_frac.specs.declared.Frac.{Frac}
 use Rattle.dc_frac.specs.Value.{value}
+use Rattle.dc_frac.proofs.FitLaws.{true_small, small_true}
+use Rattle.dc_frac.proofs.ZeroSums.{lowest-neg}
 use Rattle.dc_lp.specs.Folds.{numbers}
 use Rattle.dc_simplex.specs.Outcomes.{IsVector}
 use Rattle.dc_cert.specs.declared.sparse.Sparse.{Sparse}
 use Rattle.dc_cert.specs.Vectors.{nonzero_from}
 use Rattle.dc_session.specs.Made.{AreItemsOf}
-use Rattle.dc_acceptance.proofs.Small.{neg_size, lowest-neg}
 
 -- both parts are at most 2^127 - 1
 abbrev pub IsNumber : ℚ → Type 0
 IsNumber x = fits x ≡ true
 
 -- ---- sizes
-pub small_true : (z : ℤ) → IsSmall z → is_small z ≡ true
-small_true z l = by (is_small z) refl
-  where
-    by : (b : Bool) → is_small z ≡ b → is_small z ≡ true
-    by true e = e
-    by false e = absurd (let g : 2 ^ 127 ≤ unsigned_abs z = ltb-false (unsigned_abs z) (2 ^ 127) e in omega arith)
-
-small_is : (z : ℤ) → is_small z ≡ true → IsSmall z
-small_is z e = grind (arith, common_steps)
 
 pub neg_number : (x : ℚ) → IsNumber x → IsNumber (neg_ℚ x)
 unfolding fits
 neg_number x h =
     ap (λ (f : Fraction). is_small f.num && is_small f.den) (lowest-neg x)
-    ∙ ap (λ n. nat_lt n (2 ^ 127) && is_small (lowest x).den) (neg_size (lowest x).num) ∙ h
+    ∙ ap (λ n. nat_lt n (2 ^ 127) && is_small (lowest x).den) (size-neg_ℤ (lowest x).num) ∙ h
 
 pub whole_number : (z : ℤ) → IsSmall z → IsNumber (of_ℤ z)
 unfolding fits
@@ -60,7 +52,7 @@ fraction_is x h = (
     den = (lowest x).den;
     positive = (lowest x).den_positive;
     reduced = lowest_reduced x;
-    small = small_is (lowest x).num (and_parts (is_small (lowest x).num) (is_small (lowest x).den) h).0;
+    small = true_small (lowest x).num (and_parts (is_small (lowest x).num) (is_small (lowest x).den) h).0;
   },
   ratio-lowest x,
 )

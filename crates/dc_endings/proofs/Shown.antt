@@ -23,11 +23,11 @@ use Rattle.dc_points.specs.Shown.{IsFlag}
 use Rattle.dc_points.proofs.Duals.{empty-no_ray}
 use Rattle.dc_points.proofs.Combinations.{solution-shows_dead, solution-combines, refutation-shows_live}
 use Rattle.dc_points.proofs.Farkas.{solved-dead, refuted-met, best_is_least, refuted_has_none, never_falls}
+use Rattle.dc_points.proofs.Flags.{dead_flag, live_flag}
+use Rattle.dc_points.proofs.Whole.{over_atoms}
 use Rattle.dc_entail.specs.Asked.{Asked, IsDone}
-use Rattle.dc_entail.proofs.Telling.{atoms-over}
 use Rattle.dc_invariant.specs.Shown.{IsSolutionOf, IsRefutationOf, IsLine}
 use Rattle.dc_invariant.specs.Lent.{IsLeastKeep}
-use Rattle.dc_invariant.proofs.Tells.{dead_flag, live_flag}
 use Rattle.dc_invariant.proofs.Vectors.{combines_same, live_same}
 use Rattle.dc_session.specs.Made.{AreItemsOf}
 use Rattle.dc_acceptance.proofs.Items.{item_at}
@@ -73,7 +73,7 @@ module _ (hyps : List Atom) (n budget : ℕ) (atoms : AllByRecursion (IsAtom n) 
   empty = empty_problem hyps n
 
   over : AreOver n hyps
-  over = atoms-over n hyps atoms
+  over = over_atoms n hyps atoms
 
   light : IsLight empty
   light = empty_light n hyps atoms n few
@@ -116,7 +116,7 @@ module _ (hyps : List Atom) (form : List ℤ) (budget : ℕ) (atoms : AllByRecur
   sup = sup_problem hyps form
 
   form_over : AreOver (length form) hyps
-  form_over = atoms-over (length form) hyps atoms
+  form_over = over_atoms (length form) hyps atoms
 
   form_light : IsLight sup
   form_light = sup_light (length form) hyps atoms form few small

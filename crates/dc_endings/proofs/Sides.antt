@@ -1,5 +1,5 @@
 -- What shows the printed atoms of a version, where its problems come to their end.
-use Rattle.std.specs.Prelude.{◌≡◌, ℕ, zero, suc, ◌+◌, ◌-◌, ◌^◌, ◌<◌, ◌≤◌, Bool, true, false, cond, if◌then◌else◌, List, [], ◌∷◌, ◌++◌, map, take, length, slice_index_or, sum_by, unsigned_abs, ℤ, pos}
+use Rattle.std.specs.Prelude.{◌≡◌, ℕ, suc, ◌+◌, ◌-◌, ◌^◌, ◌<◌, ◌≤◌, Bool, true, false, cond, if◌then◌else◌, List, [], ◌∷◌, ◌++◌, map, take, length, sum_by, unsigned_abs, ℤ, pos}
 use Rattle.std.specs.List.{AllByRecursion}
 use Rattle.std.proofs.Common.{refl, sym, ◌∙◌, ap, subst, arith}
 use Rattle.std.proofs.lemmas.List.{length-take-le, get_or-take}
@@ -38,6 +38,7 @@ use Rattle.dc_moves.proofs.Cuts.{cuts_ask_the_same, cuts_ask_the_same_forms, cut
 use Rattle.dc_moves.proofs.Forms.{row_is_light, forms_have_places, forms_are_light, forms_tell_atoms}
 use Rattle.dc_greatest.specs.Parts.{for_live, for_edges}
 use Rattle.dc_greatest.proofs.Ends.{flag_same}
+use Rattle.dc_greatest.proofs.Searching.{done_parts}
 use Rattle.dc_invariant.specs.Shown.{IsSolutionOf, IsRefutationOf, IsKeep, AreKeeps, IsLine}
 use Rattle.dc_invariant.specs.Keeps as side
 use Rattle.dc_invariant.specs.Keeps.{printed_at, kept_atoms, exit_atoms, AreLive, numbered, atom_at_entry, entry_asked, atom_along, edge_dead, edge_asked, exit_asked, keeps_asked, IsSidePart}
@@ -48,9 +49,6 @@ use Rattle.dc_session.specs.Session.{case_asked}
 use Rattle.dc_endings.proofs.Shown.{IsEnded, done_ended, HasLine, has_line, has_keep}
 
 -- ---- lists
-pub done_parts : (budget : ℕ) (ps qs : List Asked) → AllDone budget (ps ++ qs) → AllDone budget ps × AllDone budget qs
-done_parts budget [] qs h = (tt, h)
-done_parts budget (p ∷ ps) qs h = let r = done_parts budget ps qs h.1 in ((h.0, r.0), r.1)
 
 pub line_flag : (b : Bool) (hyps : List Atom) (n budget : ℕ) (l : HasLine hyps n budget) → IsFlag b hyps → is_live l.said ≡ b
 line_flag b hyps n budget l f = flag_same (is_live l.said) b hyps l.flag f

@@ -1,11 +1,10 @@
 -- The starting table of a problem whose numbers are small.
-use Rattle.std.specs.Prelude.{◌≡◌, ◌⊎◌, ℕ, zero, suc, ◌+◌, ◌<◌, ◌≤◌, ◌==◌, Bool, true, false, cond, if◌then◌else◌, nat_lt, ℤ, pos, neg_ℤ, ◌+ℤ◌, unsigned_abs}
-use Rattle.std.proofs.Common.{refl, sym, ◌∙◌, ap, ap₂, subst, arith, inl, inr}
-use Rattle.std.proofs.lemmas.Bool.{cases_lt, eqb-true}
-use Rattle.std.proofs.lemmas.Int.{ints}
+use Rattle.std.specs.Prelude.{◌≡◌, ℕ, zero, suc, ◌+◌, ◌<◌, ◌≤◌, ◌==◌, Bool, true, false, cond, if◌then◌else◌, nat_lt, ℤ, pos, neg_ℤ, ◌+ℤ◌, unsigned_abs}
+use Rattle.std.proofs.Common.{refl, sym, ◌∙◌, ap, ap₂, subst, arith}
 use Rattle.dc_math.specs.Rational.{ℚ, of_ℤ, of_ℤ-+ℤ, ◌+ℚ◌, neg_ℚ, le_ℚ}
 use Rattle.dc_math.specs.RationalField.{rationals}
 use Rattle.dc_math.specs.Order.{of_ℤ-neg_ℤ}
+use Rattle.dc_math.specs.Integers.{size-neg_ℤ, size-+ℤ}
 use Rattle.dc_frac.specs.Fits.{IsSmall}
 use Rattle.dc_lp.specs.Linear.{Linear}
 use Rattle.dc_lp.proofs.Tallies.{tally, tally-term, hit, once-from, tally-hit}
@@ -42,20 +41,14 @@ sized_number : (x : ℚ) (b : ℕ) → IsSized x b → b < 2 ^ 127 → IsNumber 
 sized_number x b h l = subst IsNumber (sym h.is) (whole_number h.number (let s = h.size in omega arith))
 
 sized_neg : (x : ℚ) (b : ℕ) → IsSized x b → IsSized (neg_ℚ x) b
-sized_neg x b h = record { number = neg_ℤ h.number; is = ap neg_ℚ h.is ∙ sym (of_ℤ-neg_ℤ h.number); size = (let e = neg_size h.number in let s = h.size in omega arith) }
-  where
-    neg_size : (z : ℤ) → unsigned_abs (neg_ℤ z) ≡ unsigned_abs z
-    neg_size z = omega (arith, ints)
+sized_neg x b h = record { number = neg_ℤ h.number; is = ap neg_ℚ h.is ∙ sym (of_ℤ-neg_ℤ h.number); size = (let e = size-neg_ℤ h.number in let s = h.size in omega arith) }
 
 sized_sum : (x y : ℚ) (b c : ℕ) → IsSized x b → IsSized y c → IsSized (x +ℚ y) (b + c)
 sized_sum x y b c h k = record {
   number = h.number +ℤ k.number;
   is = ap₂ ◌+ℚ◌ h.is k.is ∙ sym (of_ℤ-+ℤ h.number k.number);
-  size = (let e = size_sum h.number k.number in let s = h.size in let t = k.size in omega arith);
+  size = (let e = size-+ℤ h.number k.number in let s = h.size in let t = k.size in omega arith);
 }
-  where
-    size_sum : (x y : ℤ) → unsigned_abs (x +ℤ y) ≤ unsigned_abs x + unsigned_abs y
-    size_sum x y = omega (arith, ints)
 
 whole_sized : (z : ℤ) → IsSized (of_ℤ z) (unsigned_abs z)
 whole_sized z = record { number = z; is = refl; size = omega arith }

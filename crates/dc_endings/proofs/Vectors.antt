@@ -4,7 +4,7 @@ use Rattle.std.proofs.Common.{refl, sym, ◌∙◌, ap, subst, arith, inl, inr}
 use Rattle.dc_math.specs.Rational.{ℚ, of_ℤ, ◌-ℚ◌, neg_ℚ, le_ℚ}
 use Rattle.dc_math.specs.RationalRing.{ring, reads, read_nat, same_form}
 use Rattle.dc_math.specs.RationalField.{rationals}
-use Rattle.dc_math.specs.Order.{of_ℤ-neg_ℤ}
+use Rattle.dc_math.specs.Order.{of_ℤ-neg_ℤ, zero-minus}
 use Rattle.dc_lp.specs.Linear.{Linear}
 use Rattle.dc_lp.specs.Tables.{Table}
 use Rattle.dc_lp.specs.Meanings.{at, right}
@@ -57,10 +57,7 @@ module _ (t : Table ℚ) (numbers : AreNumbers t) where
 
 -- ---- the body of the main problem
 difference_number : (x y : ℚ) → (x ≡ of_ℤ (pos 0)) ⊎ (y ≡ of_ℤ (pos 0)) → IsNumber x → IsNumber y → IsNumber (x -ℚ y)
-difference_number x y (inl e) h k = subst IsNumber (sym (ap (λ z. z -ℚ y) e ∙ from_none y)) (neg_number y k)
-  where
-    from_none : (y : ℚ) → of_ℤ (pos 0) -ℚ y ≡ neg_ℚ y
-    from_none y = ring (y ∷ []) (λ ρ i. simp (i, read_nat ρ, reads) (same_form _ _ _ refl))
+difference_number x y (inl e) h k = subst IsNumber (sym (ap (λ z. z -ℚ y) e ∙ zero-minus y)) (neg_number y k)
 difference_number x y (inr e) h k = subst IsNumber (sym (ap (λ z. x -ℚ z) e ∙ minus_none x)) h
   where
     minus_none : (x : ℚ) → x -ℚ of_ℤ (pos 0) ≡ x

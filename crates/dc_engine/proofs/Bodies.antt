@@ -1,5 +1,5 @@
 -- The body of the certificate, by the vectors of the outcome.
-use Rattle.std.specs.Prelude.{◌≡◌, ◌⊎◌, ℕ, zero, suc, ◌+◌, ◌*◌, ◌-◌, ◌<◌, ◌≤◌, List, [], ◌∷◌, ◌++◌, take, drop, length, slice_index_or, ℤ, pos, true, false}
+use Rattle.std.specs.Prelude.{◌≡◌, ◌⊎◌, ℕ, zero, suc, ◌+◌, ◌*◌, ◌-◌, ◌<◌, ◌≤◌, List, [], ◌∷◌, ◌++◌, take, drop, length, slice_index_or, ℤ, pos, false}
 use Rattle.std.proofs.Common.{refl, sym, ◌∙◌, ap, ap₂, subst, inl, inr, arith, length-append}
 use Rattle.std.proofs.lemmas.Bool.{cases_lt}
 use Rattle.std.proofs.lemmas.List.{length-drop, take_all}
@@ -7,7 +7,7 @@ use Rattle.dc_math.specs.Rational.{ℚ, of_ℤ, neg_ℚ, ◌-ℚ◌, zero-+ℚ}
 use Rattle.dc_math.specs.RationalRing.{ring, reads, read_nat, same_form}
 use Rattle.dc_math.specs.RationalField.{rationals}
 use Rattle.dc_math.specs.Order.{of_ℤ-neg_ℤ}
-use Rattle.dc_math.specs.Tests.{is_zero, eq_ℚ-true, eq_ℚ_true}
+use Rattle.dc_math.specs.Tests.{is_zero, eq_ℚ-true}
 use Rattle.dc_frac.specs.declared.Frac.{Frac}
 use Rattle.dc_frac.specs.Value.{value}
 use Rattle.dc_lp.specs.Folds.{numbers}
@@ -158,8 +158,6 @@ pub difference_right : (a b c : ℚ) → a ≡ of_ℤ (pos 0) → c ≡ neg_ℚ 
 difference_right a b c e h = h ∙ sym (zero-+ℚ (neg_ℚ b)) ∙ ap (λ z. z -ℚ b) (sym e)
 
 -- ---- the numbers that are read
-pub is_zero_true : (a : ℚ) → is_zero a ≡ true → a ≡ of_ℤ (pos 0)
-is_zero_true a e = eq_ℚ_true a (of_ℤ (pos 0)) e
 
 pub left_zero : (a b : ℚ) → (a ≡ of_ℤ (pos 0)) ⊎ (b ≡ of_ℤ (pos 0)) → is_zero b ≡ false → a ≡ of_ℤ (pos 0)
 left_zero a b (inl e) f = e

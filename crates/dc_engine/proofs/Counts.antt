@@ -7,7 +7,8 @@ use Rattle.dc_syntax.specs.declared.tree.Proc.{Proc}
 use Rattle.dc_syntax.specs.declared.tree.Side.{Side}
 use Rattle.dc_syntax.specs.declared.tree.Side.TheVariants.{New, Old}
 use Rattle.dc_affine.specs.declared.atom.Atom.{Atom}
-use Rattle.dc_affine.specs.Atoms.{IsAtom, IsFullAtom, AllCases}
+use Rattle.dc_affine.specs.Atoms.{IsAtom, IsFullAtom}
+use Rattle.dc_affine.proofs.Within.{flat_atoms}
 use Rattle.dc_system.specs.declared.edges.System.{System}
 use Rattle.dc_system.specs.declared.edges.SystemFault.{SystemFault}
 use Rattle.dc_system.specs.declared.edges.SystemFault.TheVariants as system
@@ -94,10 +95,6 @@ module _ (i : Input) where
 join_atoms : (n : ℕ) (xs ys : List Atom) → AllByRecursion (IsFullAtom n) xs → AllByRecursion (IsAtom n) ys → AllByRecursion (IsAtom n) (xs ++ ys)
 join_atoms n [] ys h k = k
 join_atoms n (x ∷ xs) ys h k = (h.0.within, join_atoms n xs ys h.1 k)
-
-flat_atoms : (n : ℕ) (cases : List (List Atom)) → AllCases (IsFullAtom n) cases → AllByRecursion (IsAtom n) (flat_map (λ case. case) cases)
-flat_atoms n [] h = tt
-flat_atoms n (case ∷ cases) h = join_atoms n case (flat_map (λ c. c) cases) h.0 (flat_atoms n cases h.1)
 
 -- those that a system before folding is lent with
 module _ (i : Input) (input : IsInput i) (atoms : List Atom) (flat : atoms ≡ flat_map (λ case. case) i.cases) where

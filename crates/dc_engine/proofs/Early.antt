@@ -14,7 +14,8 @@ use Rattle.dc_families.specs.Graphs.{Graph, graph_of}
 use Rattle.dc_greatest.specs.declared.family.InvFault.{InvFault}
 use Rattle.dc_greatest.specs.Answers.{IsFault}
 use Rattle.dc_greatest.proofs.Ends.{flags_same}
-use Rattle.dc_invariant.proofs.Faults.{fault_before, done_both}
+use Rattle.dc_greatest.proofs.Unchanged.{both_done}
+use Rattle.dc_invariant.proofs.Faults.{fault_before}
 use Rattle.dc_session.specs.Session.{Input, Part, Analysis, candidates_for, part_asked, cases_asked, new_asked, old_asked}
 use Rattle.dc_session.specs.Refusals.{early_excess}
 use Rattle.dc_session.specs.Answers.{IsInput}
@@ -88,7 +89,7 @@ module _ (i : Input) (input : IsInput i) (v : Versions) (vs : AreVersions i v) w
       unfolding analysis_of
       old_fault bs d f k =
           fault_before budget (first ++ second) (PartAsks Old (graph_of v.old.system) i.cases bs v.old.candidates) (EarlyAsks i)
-          (done_both budget first second h.through new_told.through) to f k
+          (both_done budget first second h.through new_told.through) to f k
         where
           to : (asked : List Asked) → PartAsks Old (graph_of v.old.system) i.cases bs v.old.candidates asked
               → (after : List Asked) × EarlyAsks i ((first ++ second) ++ (asked ++ after))
@@ -118,5 +119,5 @@ module _ (i : Input) (input : IsInput i) (v : Versions) (vs : AreVersions i v) w
             when = h.lines_are;
             new_side = record { part = new_told.keeps; exit = new_told.exit };
             old_side = record { part = old_told.keeps; exit = old_told.exit };
-            through = done_both budget first (second ++ third) h.through (done_both budget second third new_told.through old_told.through);
+            through = both_done budget first (second ++ third) h.through (both_done budget second third new_told.through old_told.through);
           }

@@ -5,20 +5,23 @@ use Rattle.std.proofs.Common.{refl, sym, ◌∙◌, ap, subst, arith}
 use Rattle.std.proofs.lemmas.List.{take_all, length-take-le, map-append}
 use Rattle.dc_affine.specs.declared.atom.Atom.{Atom}
 use Rattle.dc_affine.specs.Atoms.{IsAtom, IsFullAtom, AllCases}
+use Rattle.dc_affine.proofs.Within.{full_within}
 use Rattle.dc_cert.specs.declared.certificate.Liveness.{Liveness}
 use Rattle.dc_cert.specs.declared.certificate.Liveness.TheVariants.{Dead, Live}
 use Rattle.dc_cert.specs.Ranges.{is_live}
 use Rattle.dc_points.specs.Flags.{IsFlag, AreFlags}
 use Rattle.dc_points.specs.Stated.{empty_problem}
+use Rattle.dc_points.proofs.Flags.{flags_push}
 use Rattle.dc_entail.specs.declared.answer.Site.{Site}
 use Rattle.dc_entail.specs.declared.answer.Site.TheVariants as site
 use Rattle.dc_entail.specs.Asked.{Asked, ask, IsDone, AllDone}
 use Rattle.dc_greatest.specs.declared.family.InvFault.{InvFault}
 use Rattle.dc_greatest.specs.Answers.{IsFault}
+use Rattle.dc_greatest.proofs.Unchanged.{both_done}
 use Rattle.dc_invariant.specs.Shown.{IsLine}
 use Rattle.dc_invariant.specs.Keeps.{numbered}
-use Rattle.dc_invariant.proofs.Faults.{fault_part, done_both}
-use Rattle.dc_invariant.proofs.Kept.{cut_at, next_at}
+use Rattle.dc_invariant.proofs.Faults.{fault_part}
+use Rattle.dc_invariant.proofs.Kept.{cut_at, next_at, numbered_join}
 use Rattle.dc_invariant.proofs.Tells.{line_done_dead, line_done_live}
 use Rattle.dc_session.specs.Session.{Input, case_asked, cases_asked}
 use Rattle.dc_session.specs.Made.{AreCaseLines}
@@ -29,22 +32,13 @@ line_done : (hyps : List Atom) (n budget : ℕ) (l : Liveness) (q : Site) → Is
 line_done hyps n budget (Dead k) q h = line_done_dead hyps n budget k q h
 line_done hyps n budget (Live k) q h = line_done_live hyps n budget k q h
 
-pub full_atoms : (n : ℕ) (atoms : List Atom) → AllByRecursion (IsFullAtom n) atoms → AllByRecursion (IsAtom n) atoms
-full_atoms n [] h = tt
-full_atoms n (a ∷ atoms) h = (h.0.within, full_atoms n atoms h.1)
-
 pub case_atoms : (n : ℕ) (cases : List (List Atom)) (k : ℕ) (case : List Atom) → AllCases (IsFullAtom n) cases → k < length cases → case ≡ slice_index_or cases k case
     → AllByRecursion (IsAtom n) case
 case_atoms n [] k case h l e = absurd (omega arith)
-case_atoms n (x ∷ cases) zero case h l e = subst (AllByRecursion (IsAtom n)) (sym e) (full_atoms n x h.0)
+case_atoms n (x ∷ cases) zero case h l e = subst (AllByRecursion (IsAtom n)) (sym e) (full_within n x h.0)
 case_atoms n (x ∷ cases) (suc k) case h l e = case_atoms n cases k case h.1 (omega arith) e
 
 -- ---- lists that grow
-numbered_join : {A B : Type 0} (f : ℕ → A → B) (k : ℕ) (xs ys : List A) → numbered f k (xs ++ ys) ≡ numbered f k xs ++ numbered f (k + length xs) ys
-numbered_join f k [] ys = let e : k ≡ k + 0 = omega arith in ap (λ j. numbered f j ys) e
-numbered_join f k (x ∷ xs) ys =
-    let e : suc k + length xs ≡ k + suc (length xs) = omega arith in
-    ap (λ zs. f k x ∷ zs) (numbered_join f (suc k) xs ys ∙ ap (λ j. numbered f (suc k) xs ++ numbered f j ys) e)
 
 lines_push : (n budget : ℕ) (cases : List (List Atom)) (live : List Bool) (ws : List Liveness) (case : List Atom) (w : Liveness)
     → AreCaseLines n budget cases live ws → IsLine case n budget w → AreCaseLines n budget (cases ++ case ∷ []) (live ++ is_live w ∷ []) (ws ++ w ∷ [])
@@ -54,12 +48,6 @@ lines_push n budget [] (b ∷ live) ws case w h k = absurd h
 lines_push n budget (c ∷ cases) [] ws case w h k = absurd h
 lines_push n budget (c ∷ cases) (b ∷ live) [] case w h k = absurd h
 lines_push n budget (c ∷ cases) (b ∷ live) (x ∷ ws) case w h k = (h.0, h.1, lines_push n budget cases live ws case w h.2 k)
-
-flags_push : (live : List Bool) (cases : List (List Atom)) (b : Bool) (case : List Atom) → AreFlags live cases → IsFlag b case → AreFlags (live ++ b ∷ []) (cases ++ case ∷ [])
-flags_push [] [] b case h k = (k, tt)
-flags_push [] (c ∷ cases) b case h k = absurd h
-flags_push (d ∷ live) [] b case h k = absurd h
-flags_push (d ∷ live) (c ∷ cases) b case h k = (h.0, flags_push live cases b case h.1 k)
 
 -- ---- the lines of the first cases
 module _ (n budget : ℕ) (cases : List (List Atom)) where
@@ -91,7 +79,7 @@ module _ (n budget : ℕ) (cases : List (List Atom)) where
               (subst (λ bs. AreFlags bs (take k cases ++ case ∷ [])) (sym m) (flags_push (map is_live ws) (take k cases) (is_live w) case h.right f));
           done = subst (λ cs. AllDone budget (numbered asked 0 cs)) (sym s)
               (subst (AllDone budget) (sym (numbered_join asked 0 (take k cases) (case ∷ []) ∙ ap (λ j. numbered asked 0 (take k cases) ++ asked j case ∷ []) long))
-              (done_both budget (numbered asked 0 (take k cases)) (asked k case ∷ []) h.done (line_done case n budget w (site.When k) l, tt)));
+              (both_done budget (numbered asked 0 (take k cases)) (asked k case ∷ []) h.done (line_done case n budget w (site.When k) l, tt)));
         }
 
     pub lines_fault : (ws : List Liveness) → AreFirstLines k ws → (x : InvFault) → IsFault budget (Only (asked k case ∷ [])) x → IsFault budget (Only (cases_asked n cases)) x

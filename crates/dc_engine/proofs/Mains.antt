@@ -20,6 +20,7 @@ use Rattle.dc_system.specs.declared.edges.System.{System}
 use Rattle.dc_cert.specs.declared.certificate.Body.{Body}
 use Rattle.dc_cert.specs.Ranges.{is_live}
 use Rattle.dc_points.specs.Stated.{rational}
+use Rattle.dc_points.proofs.Flags.{flags_many}
 use Rattle.dc_entail.specs.declared.answer.Site.TheVariants as site
 use Rattle.dc_entail.specs.Asked.{AllDone, Refuses, IsRefusal as IsRefused}
 use Rattle.dc_entail.proofs.Refusals.{refusals_join, excludes}
@@ -31,8 +32,8 @@ use Rattle.dc_greatest.specs.Refusals.{with_site}
 use Rattle.dc_greatest.specs.declared.family.InvFault.{InvFault}
 use Rattle.dc_greatest.specs.declared.family.InvFault.TheVariants as problem
 use Rattle.dc_greatest.specs.Answers as greatest
+use Rattle.dc_greatest.proofs.Unchanged.{both_done}
 use Rattle.dc_invariant.specs.Keeps.{kept_atoms}
-use Rattle.dc_invariant.proofs.Faults.{done_both}
 use Rattle.dc_claims.specs.Duties.{Pair, Flags}
 use Rattle.dc_claims.specs.Plans.{IsPlan, IsFit}
 use Rattle.dc_claims.specs.Parts.{unknowns_of}
@@ -49,6 +50,7 @@ use Rattle.dc_session.specs.Session.{Input, candidates_for, Analysis, pair_of, f
 use Rattle.dc_session.specs.Made.{unknowns_in}
 use Rattle.dc_session.specs.Refusals.{Excess, of_main, early_excess, main_excess, IsThrough, RefusesAt}
 use Rattle.dc_session.specs.Answers.{IsInput, IsFault}
+use Rattle.dc_session.proofs.Repeated.{case_flags_are}
 use Rattle.dc_engine.specs.declared.lent.Lent.{Lent}
 use Rattle.dc_engine.specs.declared.lent.Versions.{Versions}
 use Rattle.dc_engine.specs.declared.lent.Early.{Early}
@@ -56,7 +58,7 @@ use Rattle.dc_engine.specs.Bodies.{CanTell, TellsBody}
 use Rattle.dc_engine.specs.Faults.{IsExcess, refused_at}
 use Rattle.dc_engine.specs.Parts.{input_of, AreVersions, TellsEarly, TellsMade, pair_in, flags_in, width_of, EarlyAsks}
 use Rattle.dc_engine.proofs.Bodies.{can_tell, body_is}
-use Rattle.dc_engine.proofs.Fits.{is_plan, are_cases, edge_flags_are, case_flags_are, flags_many, few_columns}
+use Rattle.dc_engine.proofs.Fits.{is_plan, are_cases, edge_flags_are, few_columns}
 
 -- ---- refusals before the main problem
 pub early_excess_fault : (i : Input) (f : AnalyseFault) → IsExcess (early_excess i) f → IsFault i f
@@ -250,7 +252,7 @@ module _ (t : Lent) (v : Versions) (e : Early) (input : IsInput (input_of t)) (c
         analysis = h.right;
         counts = counts;
         main_counts = within;
-        through = done_both budget (early_asked i a) (main_asked i a ∷ []) h.through
+        through = both_done budget (early_asked i a) (main_asked i a ∷ []) h.through
             ((pivots_of o, d.outcome.ending, end, subst (λ l. IsAnswer l budget (Done (pivots_of o) d.outcome.ending end)) stated (answer_of (linear_of p) budget left o d)), tt);
       }
 

@@ -1,10 +1,11 @@
 -- The part of a version: the rounds, pruning, and what shows the printed atoms.
-use Rattle.std.specs.Prelude.{◌≡◌, ◌⊎◌, ℕ, zero, suc, ◌-◌, Bool, true, false, List, [], ◌∷◌, ◌++◌, map, slice_index_or}
+use Rattle.std.specs.Prelude.{◌≡◌, ℕ, zero, suc, ◌-◌, Bool, List, [], ◌∷◌, ◌++◌, map, slice_index_or}
 use Rattle.std.specs.List.{AllByRecursion}
-use Rattle.std.proofs.Common.{refl, sym, ◌∙◌, ap, subst, inl, inr, append_assoc, append-nil}
+use Rattle.std.proofs.Common.{refl, sym, ◌∙◌, ap, subst, append_assoc, append-nil}
 use Rattle.dc_syntax.specs.declared.tree.Side.{Side}
 use Rattle.dc_affine.specs.declared.atom.Atom.{Atom}
 use Rattle.dc_affine.specs.Atoms.{IsAtom, IsFullAtom}
+use Rattle.dc_affine.proofs.Within.{full_within}
 use Rattle.dc_system.specs.declared.edges.System.{System}
 use Rattle.dc_system.specs.Shapes.{IsWellFormed}
 use Rattle.dc_cert.specs.declared.certificate.Liveness.{Liveness}
@@ -12,19 +13,20 @@ use Rattle.dc_cert.specs.declared.certificate.Liveness.TheVariants.{Dead, Live}
 use Rattle.dc_cert.specs.declared.certificate.SideCert.{SideCert}
 use Rattle.dc_cert.specs.Vectors.{entry_of}
 use Rattle.dc_cert.specs.Ranges.{is_live}
-use Rattle.dc_points.specs.Points.{AreOver, IsDead}
+use Rattle.dc_points.specs.Points.{AreOver}
 use Rattle.dc_points.specs.Flags.{IsFlag}
 use Rattle.dc_points.proofs.Combinations.{shows_dead-solution, shows_live-refutation}
 use Rattle.dc_points.proofs.Farkas.{solved-dead, refuted-met}
+use Rattle.dc_points.proofs.Flags.{dead_flag, live_flag}
+use Rattle.dc_points.proofs.Whole.{over_atoms}
 use Rattle.dc_entail.specs.Asked.{Asked, AllDone}
-use Rattle.dc_entail.proofs.Telling.{atoms-over}
 use Rattle.dc_rows.specs.declared.kinds.Candidates.{Candidates}
 use Rattle.dc_rows.specs.Candidate.{AreCandidates}
 use Rattle.dc_families.specs.Graphs.{Graph, graph_of}
 use Rattle.dc_families.specs.Families.{Family, everything, family_of}
 use Rattle.dc_families.specs.Rounds.{IsGreatest, IsHonest, IsInductive}
 use Rattle.dc_families.specs.Printed.{Question, ArePrinted}
-use Rattle.dc_families.proofs.Decisions.{decide_dead}
+use Rattle.dc_families.proofs.Decisions.{has_flag}
 use Rattle.dc_families.proofs.False.{greatest_is_honest}
 use Rattle.dc_families.proofs.Folds.{systems_are_graphs}
 use Rattle.dc_families.proofs.Greatest.{one_greatest}
@@ -35,24 +37,17 @@ use Rattle.dc_greatest.specs.Kept.{stands_for}
 use Rattle.dc_greatest.specs.Parts.{Rounds, RoundsAsk}
 use Rattle.dc_greatest.specs.Answers.{IsFault, TellsGreatest}
 use Rattle.dc_greatest.proofs.Ends.{has_flags, rounds_reach_greatest}
+use Rattle.dc_greatest.proofs.Unchanged.{both_done}
 use Rattle.dc_invariant.specs.Answers.{TellsPrinted, TellsKeeps}
 use Rattle.dc_invariant.specs.Prunes.{questions_asked, PrunesAsk}
 use Rattle.dc_invariant.specs.Keeps.{kept_atoms, exit_atoms, AreLive, keeps_asked, KeepsAsk}
 use Rattle.dc_invariant.specs.Shown.{IsLine}
-use Rattle.dc_invariant.proofs.Faults.{fault_before, done_both}
-use Rattle.dc_invariant.proofs.Tells.{dead_flag, live_flag}
+use Rattle.dc_invariant.proofs.Faults.{fault_before}
 use Rattle.dc_invariant.proofs.Whole.{printed_are_atoms}
 use Rattle.dc_session.specs.Session.{Part, IsPart, part_asked}
 use Rattle.dc_engine.specs.Parts.{TellsPart, PartAsks}
-use Rattle.dc_engine.proofs.Lines.{full_atoms}
 
 -- ---- flags
-has_flag : (h : List Atom) → (b : Bool) × IsFlag b h
-has_flag h = by (decide_dead h)
-  where
-    by : IsDead h ⊎ (¬ IsDead h) → (b : Bool) × IsFlag b h
-    by (inl e) = (false, dead_flag h e)
-    by (inr e) = (true, live_flag h e)
 
 line_flag : (hyps : List Atom) (n budget : ℕ) (l : Liveness) → AreOver n hyps → IsLine hyps n budget l → IsFlag (is_live l) hyps
 line_flag hyps n budget (Dead k) o h = dead_flag hyps (solved-dead n hyps o (entry_of k.items) (shows_dead-solution n hyps (entry_of k.items) h.shows))
@@ -62,7 +57,7 @@ line_flag hyps n budget (Live k) o h =
 
 atoms_in : (n : ℕ) (lists : List (List Atom)) (l : ℕ) → AllByRecursion (AllByRecursion (IsFullAtom n)) lists → AllByRecursion (IsAtom n) (slice_index_or lists l [])
 atoms_in n [] l h = tt
-atoms_in n (x ∷ lists) zero h = full_atoms n x h.0
+atoms_in n (x ∷ lists) zero h = full_within n x h.0
 atoms_in n (x ∷ lists) (suc l) h = atoms_in n lists l h.1
 
 module _ (side : Side) (s : System) (cases : List (List Atom)) (live : List Bool) (c : Candidates) (budget : ℕ) where
@@ -144,7 +139,7 @@ module _ (side : Side) (s : System) (cases : List (List Atom)) (live : List Bool
     before = (begun fs h).asked ++ questions_asked side c F 0 q.questions
 
     before_done : AllDone budget before
-    before_done = done_both budget (begun fs h).asked (questions_asked side c F 0 q.questions) (begun fs h).done q.through
+    before_done = both_done budget (begun fs h).asked (questions_asked side c F 0 q.questions) (begun fs h).done q.through
 
     pub keeps_fault : (f : InvFault) → IsFault budget (KeepsAsk side g printed cases live) f → IsFault budget Asks f
     keeps_fault f k = fault_before budget before (KeepsAsk side g printed cases live) Asks before_done to f k
@@ -172,12 +167,12 @@ module _ (side : Side) (s : System) (cases : List (List Atom)) (live : List Bool
         printed = q.printed_is;
         edges_live = k.right;
         exit_live = line_flag (exit_atoms g printed) s.vars budget x.exit_line
-            (atoms-over s.vars (exit_atoms g printed) (atoms_in s.vars printed (s.locs - 1) (printed_are_atoms g c F printed q.questions kind q.printed_is))) k.part.exit_line;
+            (over_atoms s.vars (exit_atoms g printed) (atoms_in s.vars printed (s.locs - 1) (printed_are_atoms g c F printed q.questions kind q.printed_is))) k.part.exit_line;
       };
       keeps = k.part;
       exit = refl;
-      through = done_both budget (begun fs h).asked (questions_asked side c F 0 q.questions ++ keeps_asked side g printed cases live k.flags) (begun fs h).done
-          (done_both budget (questions_asked side c F 0 q.questions) (keeps_asked side g printed cases live k.flags) q.through k.through);
+      through = both_done budget (begun fs h).asked (questions_asked side c F 0 q.questions ++ keeps_asked side g printed cases live k.flags) (begun fs h).done
+          (both_done budget (questions_asked side c F 0 q.questions) (keeps_asked side g printed cases live k.flags) q.through k.through);
     }
 
   -- ---- what the calls require

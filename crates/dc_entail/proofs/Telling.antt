@@ -1,5 +1,5 @@
 -- From what `solve` tells of a problem to the answers.
-use Rattle.std.specs.Prelude.{◌≡◌, ◌↔◌, ℕ, List, [], ◌∷◌, length, ℤ, Result, Ok}
+use Rattle.std.specs.Prelude.{◌≡◌, ◌↔◌, ℕ, List, length, ℤ, Result, Ok}
 use Rattle.std.specs.List.{AllByRecursion}
 use Rattle.std.proofs.Common.{sym, ◌∙◌, subst}
 use Rattle.std.specs.declared.vec.Vec.{Vec}
@@ -25,12 +25,8 @@ use Rattle.dc_points.specs.Shown.{CombinesTo}
 use Rattle.dc_points.proofs.Duals.{empty-no_ray}
 use Rattle.dc_points.proofs.Combinations.{solution-shows_dead, solution-combines, refutation-shows_live}
 use Rattle.dc_points.proofs.Farkas.{solved-dead, refuted-met, best_is_least, refuted_has_none, never_falls}
+use Rattle.dc_points.proofs.Whole.{over_atoms}
 use Rattle.dc_entail.specs.Answers.{TellsDead, TellsLive, TellsLeast, TellsNoBound, IsToldBy, TellsOnly}
-
--- atoms within their sizes over n places have at most n coefficients
-pub atoms-over : (n : ℕ) (hyps : List Atom) → AllByRecursion (IsAtom n) hyps → AreOver n hyps
-atoms-over n [] h = tt
-atoms-over n (a ∷ hyps) h = (h.0.few, atoms-over n hyps h.1)
 
 -- what is told and shown of an outcome
 pub record Telling (p : Linear ℚ) (budget : ℕ) (left : Meaning) (o : Outcome) : Type 0 where
@@ -52,11 +48,11 @@ module _ (hyps : List Atom) (n budget : ℕ) (left : Meaning) (h : AllByRecursio
   tells_dead x y v k t = record {
     outcome = best_at empty budget left x y v k t.tells;
     shows = solution-shows_dead n hyps (numbers x.items) t.shows.solution;
-    dead = solved-dead n hyps (atoms-over n hyps h) (numbers x.items) t.shows.solution;
+    dead = solved-dead n hyps (over_atoms n hyps h) (numbers x.items) t.shows.solution;
   }
 
   pub tells_live : (y : Vec Frac Global) (k : ℕ) → Telling empty budget left (Infeasible y k) → TellsLive hyps n budget y.items
-  tells_live y k t = (let m = refuted-met n hyps (atoms-over n hyps h) (numbers y.items) t.shows.refutation in record {
+  tells_live y k t = (let m = refuted-met n hyps (over_atoms n hyps h) (numbers y.items) t.shows.refutation in record {
     outcome = refuted_at empty budget left y k t.tells;
     shows = refutation-shows_live hyps n (numbers y.items) t.shows.refutation;
     point = m.point;
@@ -72,7 +68,7 @@ module _ (hyps : List Atom) (form : List ℤ) (budget : ℕ) (left : Meaning) (h
   stated = rational (sup_problem hyps form)
 
   over : AreOver (length form) hyps
-  over = atoms-over (length form) hyps h
+  over = over_atoms (length form) hyps h
 
   pub tells_least : (x y : Vec Frac Global) (v : Frac) (k : ℕ) → Telling stated budget left (Optimal x y v k) → TellsLeast hyps form budget v x.items
   tells_least x y v k t = record {

@@ -1,8 +1,9 @@
 -- Two texts and a condition say something together, or one of them is wrong first.
-use Rattle.std.proofs.Common.{◌≡◌, ◌≢◌, ◌⊎◌, inl, inr, refl, sym, ◌∙◌, ℕ, ◌<◌, Bool, true, false, nat_lt, true≢false, arith, List, [], ◌∷◌, Option, Some, None}
+use Rattle.std.proofs.Common.{◌≡◌, ◌≢◌, ◌⊎◌, inl, inr, refl, sym, ◌∙◌, ℕ, Bool, true, false, nat_lt, true≢false, arith, List, [], ◌∷◌, Option, Some, None}
 use Rattle.std.specs.Str.{bytes_eq}
 use Rattle.std.proofs.lemmas.Bool.Decides.{nat_tests}
 use Rattle.std.proofs.lemmas.Slice.Eq.{bytes_eq-Decides}
+use Rattle.std.proofs.lemmas.Bool.{ltb-true}
 use Rattle.dc_syntax.specs.declared.tree.Proc.{Proc}
 use Rattle.dc_syntax.specs.Params.{params_of, HaveSameParams}
 use Rattle.dc_affine.specs.declared.atom.Atom.{Atom}
@@ -47,15 +48,12 @@ texts_same (x ∷ xs) (y ∷ ys) = go (text_same x y) (texts_same xs ys)
 count_same : (m n : ℕ) → (m ≡ n) ⊎ (m ≢ n)
 count_same m n = go (nat_lt m n) refl (nat_lt n m) refl
   where
-    below : (a b : ℕ) → nat_lt a b ≡ true → a < b
-    below a b h = grind (arith, nat_tests)
-
     equal : nat_lt m n ≡ false → nat_lt n m ≡ false → m ≡ n
     equal h k = grind (arith, nat_tests)
 
     go : (a : Bool) → nat_lt m n ≡ a → (b : Bool) → nat_lt n m ≡ b → (m ≡ n) ⊎ (m ≢ n)
-    go true h b k = inr (λ e. let l = below m n h in omega arith)
-    go false h true k = inr (λ e. let l = below n m k in omega arith)
+    go true h b k = inr (λ e. let l = ltb-true m n h in omega arith)
+    go false h true k = inr (λ e. let l = ltb-true n m k in omega arith)
     go false h false k = inl (equal h k)
 
 params_same : (p q : Proc) → HaveSameParams p q ⊎ (¬ HaveSameParams p q)

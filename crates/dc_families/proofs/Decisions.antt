@@ -3,12 +3,14 @@ use Rattle.std.specs.Prelude.{◌≡◌, ℕ, Bool, true, false, ◌&&◌, List,
 use Rattle.std.proofs.Common.{refl, sym, ◌∙◌, inl, inr, arith}
 use Rattle.std.proofs.lemmas.Bool.{and_parts, and_from, cases_eq}
 use Rattle.std.proofs.lemmas.Int.{ints}
-use Rattle.dc_math.specs.Members.{Among, head, tail, each-++, each_left, each_right, each_among, among_each}
+use Rattle.dc_math.specs.Members.{Among, head, tail, each-++, each_left, each_right, each_among, among_each, among_filter}
 use Rattle.dc_affine.specs.declared.atom.Atom.{Atom}
 use Rattle.dc_system.specs.declared.edges.Edge.{Edge}
 use Rattle.dc_system.specs.After.{is_affine_after, atom_after}
-use Rattle.dc_system.proofs.Filters.{kept_in, in_kept}
+use Rattle.dc_system.proofs.Filters.{in_kept}
 use Rattle.dc_points.specs.Points.{Point, MeetsAt, MeetsAll, Entails, IsDead}
+use Rattle.dc_points.specs.Flags.{IsFlag}
+use Rattle.dc_points.proofs.Flags.{dead_flag, live_flag}
 use Rattle.dc_rows.specs.declared.kinds.Candidates.{Candidates}
 use Rattle.dc_families.specs.Graphs.{Graph}
 use Rattle.dc_families.specs.Families.{Family, never, candidate_atoms}
@@ -62,7 +64,7 @@ pub met_all : (n : ℕ) (c : Candidates) (J : Family) (l : ℕ) (p : Point) → 
 met_all n c J l p m = among_each (MeetsAt p) _ (λ a k. m.each a (in_kept (J l) a (candidate_atoms n c) k).passes)
 
 pub all_met : (s : Graph) (c : Candidates) (J : Family) (l : ℕ) (p : Point) → HasCandidates s c J → MeetsAll p (all_held s.vars c J l) → MeetsFamily J l p
-all_met s c J l p h m = record { each = λ a j. each_among (MeetsAt p) m (kept_in (J l) a _ j (everything_is s c l a (h l a j)).1) }
+all_met s c J l p h m = record { each = λ a j. each_among (MeetsAt p) m (among_filter (J l) a _ j (everything_is s c l a (h l a j)).1) }
 
 -- ---- false is met nowhere
 below_zero : (d : ℤ) → pos 1 ≤ℤ d → pos 0 ≤ℤ (negsuc 0 *ℤ d +ℤ pos 0) → ⊥
@@ -72,6 +74,12 @@ pub decide_dead : (hyps : List Atom) → Decided (IsDead hyps)
 decide_dead hyps = elim (entailment_is_decided hyps (never 0)) [
   | inl e ↦ inl (λ p m. below_zero p.denominator p.positive (e p m))
   | inr e ↦ inr (λ d. e (λ p m. absurd (d p m)))
+]
+
+pub has_flag : (hyps : List Atom) → (b : Bool) × IsFlag b hyps
+has_flag hyps = elim (decide_dead hyps) [
+  | inl d ↦ (false, dead_flag hyps d)
+  | inr n ↦ (true, live_flag hyps n)
 ]
 
 module _ (s : Graph) (cases : List (List Atom)) (c : Candidates) (J : Family) (h : HasCandidates s c J) where

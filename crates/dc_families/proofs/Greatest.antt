@@ -1,5 +1,6 @@
 -- Rounds go down and are monotone; going down from a family that contains each inductive one they come to the greatest.
 use Rattle.std.specs.Prelude.{◌≡◌, ℕ, List}
+use Rattle.std.specs.Cmp.{both_ways}
 use mathlib.Core.Path.{fun_ext}
 use Rattle.dc_affine.specs.declared.atom.Atom.{Atom}
 use Rattle.dc_points.specs.Points.{Point}
@@ -8,10 +9,9 @@ use Rattle.dc_families.specs.Graphs.{Graph}
 use Rattle.dc_families.specs.Families.{Family}
 use Rattle.dc_families.specs.Rounds.{MeetsFamily, IsGiven, IsRound, IsInductive, IsWithin, HasCandidates, IsGreatest}
 use Rattle.dc_families.specs.Laws.{OneGreatest}
-use Rattle.dc_families.proofs.Lists.{same_test}
 
 pub same_family : (J K : Family) → IsWithin J K → IsWithin K J → J ≡ K
-same_family J K h k = fun_ext (λ l. fun_ext (λ a. same_test (J l a) (K l a) (h l a) (k l a)))
+same_family J K h k = fun_ext (λ l. fun_ext (λ a. both_ways (J l a) (K l a) (h l a) (k l a)))
 
 pub one_greatest : OneGreatest
 one_greatest s cases c J K g h = same_family J K (h.contains J g.candidates g.inductive) (g.contains K h.candidates h.inductive)

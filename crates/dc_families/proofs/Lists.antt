@@ -1,6 +1,6 @@
 -- What stands in lists.
 use Rattle.std.specs.Prelude.{◌≡◌, ℕ, zero, suc, ◌<◌, ◌≤◌, Bool, true, false, cond, List, [], ◌∷◌, find, length, slice_index_or, Some}
-use Rattle.std.proofs.Common.{refl, sym, ap₂, subst, arith}
+use Rattle.std.proofs.Common.{refl, ap₂, subst, arith}
 use Rattle.dc_math.specs.Members.{Among, head, tail}
 
 pub differ : {A : Type 0} → true ≡ false → A
@@ -28,7 +28,3 @@ find_is p x (y ∷ xs) e = by (find_is p x xs) (p y) refl e
     by g false t f = let r = g f in (tail r.0, r.1)
 
 -- ---- equal tests
-pub same_test : (a b : Bool) → (a ≡ true → b ≡ true) → (b ≡ true → a ≡ true) → a ≡ b
-same_test true b f g = sym (f refl)
-same_test false true f g = g refl
-same_test false false f g = refl

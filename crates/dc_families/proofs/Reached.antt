@@ -1,6 +1,7 @@
 -- What a path reaches from an allowed input meets an inductive family.
 use Rattle.std.specs.Prelude.{◌≡◌, ℕ, zero, suc, ◌-◌, ◌≤◌, Bool, true, false, ◌||◌, List, [], ◌∷◌, ◌++◌, take, length, replicate, ℤ, pos, ◌+ℤ◌, ◌*ℤ◌, int_le}
 use Rattle.std.proofs.Common.{refl, sym, ◌∙◌, ap, subst, arith, length-append}
+use Rattle.std.proofs.lemmas.List.{length-replicate}
 use Rattle.dc_math.specs.Members.{Among, head, tail, each_among}
 use Rattle.dc_math.specs.WholeVectors.{dot_ℤ, dot_ℤ-longer}
 use Rattle.dc_math.specs.WholeRing.{ring, reads, read_nat, same_form}
@@ -36,10 +37,6 @@ dot-zeros : (cs v : List ℤ) (n : ℕ) → dot_ℤ cs (v ++ replicate n (pos 0)
 dot-zeros cs [] n = dot-nothing cs n
 dot-zeros [] (x ∷ v) n = refl
 dot-zeros (c ∷ cs) (x ∷ v) n = ap (λ d. c *ℤ x +ℤ d) (dot-zeros cs v n)
-
-pub long-replicate : (n : ℕ) → length (replicate n (pos 0)) ≡ n
-long-replicate zero = refl
-long-replicate (suc n) = ap suc (long-replicate n)
 
 -- ---- one step, and paths
 abbrev Met : Family → ℕ → State → Type 0
@@ -83,7 +80,7 @@ module _ (s : Graph) (cases : List (List Atom)) (J : Family) (w : IsGraph s) (ov
       ap (λ d. int_le (pos 0) (a.c0 +ℤ d)) (d ∙ ap (λ m. dot_ℤ (take m a.coefs) v) n) ∙ meets-holds_at (at_start s.params a) v g
 
   start_long : (v : State) → length v ≡ s.params → length (start_at s v) ≡ s.vars
-  start_long v n = length-append v _ ∙ (let r = long-replicate (s.vars - s.params) in let p = w.params_first in omega arith)
+  start_long v n = length-append v _ ∙ (let r = length-replicate (s.vars - s.params) (pos 0) in let p = w.params_first in omega arith)
 
 pub reached_meet : ReachedMeet
 reached_meet s cases J v l x cost a w over i n h p j =
@@ -94,5 +91,5 @@ pub candidates_over : CandidatesAreOver
 candidates_over s c J kind h l a j = by (candidate_is s.vars c a (everything_is s c l a (h l a j)).1)
   where
     by : IsOne s.vars c a → length a.coefs ≤ s.vars
-    by (is_never e) = subst (λ (b : Atom). length b.coefs ≤ s.vars) (sym e) (let q = long-replicate s.vars in omega arith)
+    by (is_never e) = subst (λ (b : Atom). length b.coefs ≤ s.vars) (sym e) (let q = length-replicate s.vars (pos 0) in omega arith)
     by (is_bounded r b m k e) = subst (λ (b : Atom). length b.coefs ≤ s.vars) (sym e) (let q = (each_among (IsRow s.vars) kind.rows m).one_each in omega arith)

@@ -7,6 +7,7 @@ use Rattle.dc_math.specs.Members.{Among, head, tail, among_cons, among_map, mapp
 use Rattle.dc_affine.specs.declared.atom.Atom.{Atom}
 use Rattle.dc_rows.specs.declared.kinds.Candidates.{Candidates}
 use Rattle.dc_rows.specs.Rows.{Row, same_row}
+use Rattle.dc_rows.proofs.Same.{same-self}
 use Rattle.dc_families.specs.Families.{never, bounded, candidate_atoms, same_atom, has_atom, everything}
 use Rattle.dc_families.specs.Graphs.{Graph}
 use Rattle.dc_families.proofs.Lists.{differ}
@@ -17,15 +18,11 @@ same_row_is [] (y ∷ ys) e = differ (sym e)
 same_row_is (x ∷ xs) [] e = differ (sym e)
 same_row_is (x ∷ xs) (y ∷ ys) e = let h = and_parts _ _ e in ap₂ ◌∷◌ ((Decides-int_eq x y).0 h.0) (same_row_is xs ys h.1)
 
-same_row_self : (xs : Row) → same_row xs xs ≡ true
-same_row_self [] = refl
-same_row_self (x ∷ xs) = and_from _ _ ((Decides-int_eq x x).1 refl) (same_row_self xs)
-
 pub same_atom_is : (a b : Atom) → same_atom a b ≡ true → a ≡ b
 same_atom_is a b e = let h = and_parts _ _ e in ap₂ (λ c cs. record { c0 = c; coefs = cs }) ((Decides-int_eq a.c0 b.c0).0 h.0) (same_row_is a.coefs b.coefs h.1)
 
 pub same_atom_self : (a : Atom) → same_atom a a ≡ true
-same_atom_self a = and_from _ _ ((Decides-int_eq a.c0 a.c0).1 refl) (same_row_self a.coefs)
+same_atom_self a = and_from _ _ ((Decides-int_eq a.c0 a.c0).1 refl) (same-self a.coefs)
 
 pub either : (x y : Bool) → (x || y) ≡ true → (x ≡ true) ⊎ (y ≡ true)
 either true y e = inl refl

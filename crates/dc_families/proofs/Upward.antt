@@ -2,13 +2,13 @@
 use Rattle.std.specs.Prelude.{◌≡◌, ℕ, suc, ◌+◌, ◌<◌, Bool, true, false, cond, is_some, List, [], ◌∷◌, map, find, length, replicate, slice_index_or, ℤ, pos, negsuc, ◌+ℤ◌, ◌*ℤ◌, ◌≤ℤ◌, ◌<ℤ◌, Option, Some, None}
 use Rattle.std.proofs.Common.{refl, sym, ◌∙◌, ap, subst, inl, inr, arith}
 use Rattle.std.proofs.lemmas.Int.{ints}
-use Rattle.dc_math.specs.Members.{Among, each_among, among_each, among_cons, among_map, mapped_among, among_range, among_range_back, among_at}
+use Rattle.dc_math.specs.Members.{Among, each_among, among_each, among_cons, among_map, mapped_among, among_range, among_range_back, among_at, among_filter}
 use Rattle.dc_math.specs.Integers.{≤ℤ-*ℤ_right}
 use Rattle.dc_math.specs.WholeVectors.{dot_ℤ}
 use Rattle.dc_affine.specs.declared.atom.Atom.{Atom}
 use Rattle.dc_system.specs.declared.edges.Edge.{Edge}
 use Rattle.dc_system.specs.After.{atom_after}
-use Rattle.dc_system.proofs.Filters.{kept_in, in_kept}
+use Rattle.dc_system.proofs.Filters.{in_kept}
 use Rattle.dc_points.specs.Points.{Point, MeetsAt, MeetsAll}
 use Rattle.dc_rows.specs.declared.kinds.Candidates.{Candidates}
 use Rattle.dc_rows.specs.Rows.{Row}
@@ -112,7 +112,7 @@ module _ (c : Candidates) (J : Family) (l : ℕ) where
   pub kept_there : (r : ℕ) (b : ℤ) → r < length c.rows → Among b c.bounds → J l (bounded (row_at c r) b) ≡ true → (Among r (kept_rows c J l)) × ((x : ℤ) × (least_in c J l r ≡ Some x))
   kept_there r b h m t =
       let f = some_found (λ b. J l (bounded (row_at c r) b)) c.bounds b m t in
-      (kept_in (λ r. is_some (least_in c J l r)) r _ (ap is_some f.1) (among_range r 0 (length c.rows) (omega arith) (omega arith)), f)
+      (among_filter (λ r. is_some (least_in c J l r)) r _ (ap is_some f.1) (among_range r 0 (length c.rows) (omega arith) (omega arith)), f)
 
   -- the atom of a row that is kept is one of the family
   pub least_is : (r : ℕ) → Among r (kept_rows c J l) → J l (least_atom c J l r) ≡ true

@@ -19,9 +19,9 @@ use Rattle.dc_claims.specs.declared.duty.Duty.{Duty}
 use Rattle.dc_claims.specs.declared.duty.Duty.TheVariants.{Along, AtExit, AtEntry}
 use Rattle.dc_claims.specs.Duties.{Pair, system_of, atoms_of, places_of, IsThere, IsOwed}
 use Rattle.dc_claims.specs.Claims.{Potential, Multipliers, left_value, product_values, products_count, IsMet, IsCertified}
+use Rattle.dc_claims.proofs.Bounds.{each_made}
 use Rattle.dc_folding.proofs.Products.{products}
 use Rattle.dc_folding.proofs.Choices.{atom_values, product_values_are}
-use Rattle.dc_folding.proofs.Entailed.{each_made}
 
 -- a state of n places
 abbrev pub StateOf : ℕ → Type 0

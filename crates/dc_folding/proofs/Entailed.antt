@@ -1,9 +1,9 @@
 -- What a list of atoms entails that isn't dead is, at each point, a sum of its atoms and of 1 with factors of at least 0.
-use Rattle.std.specs.Prelude.{◌≡◌, ℕ, zero, suc, ◌+◌, ◌<◌, ◌≤◌, max, List, [], ◌∷◌, map, length, slice_index_or, ℤ, pos}
-use Rattle.std.specs.List.{range_with_len, AllByRecursion}
+use Rattle.std.specs.Prelude.{◌≡◌, ℕ, zero, suc, ◌+◌, ◌≤◌, max, List, [], ◌∷◌, map, length, slice_index_or, ℤ, pos}
+use Rattle.std.specs.List.{range_with_len}
 use Rattle.std.proofs.Common.{refl, sym, ap, ap₂, ◌∙◌, arith}
 use Rattle.dc_math.specs.WholeVectors.{dot_ℤ}
-use Rattle.dc_math.specs.Rational.{ℚ, ◌+ℚ◌, ◌-ℚ◌, ◌*ℚ◌, of_ℤ, of_ℤ-+ℤ, NonNegative, ≤ℚ-sub}
+use Rattle.dc_math.specs.Rational.{ℚ, ◌+ℚ◌, ◌-ℚ◌, ◌*ℚ◌, of_ℤ, of_ℤ-+ℤ, ≤ℚ-sub}
 use Rattle.dc_math.specs.RationalRing.{ring, reads, read_nat, same_form}
 use Rattle.dc_math.specs.Sums.{sum_ℚ, sum_ℚ_none, sum_ℚ_first, sum_ℚ_same, sum_ℚ-+ℚ, sum_ℚ-*ℚ, sum_ℚ_swap}
 use Rattle.dc_math.specs.Vectors.{dot}
@@ -18,6 +18,7 @@ use Rattle.dc_points.proofs.Coordinates.{dot-by_places}
 use Rattle.dc_points.proofs.Farkas.{entailed_are_shown}
 use Rattle.dc_folding.proofs.Products.{one}
 use Rattle.dc_folding.proofs.Choices.{atom_values}
+use Rattle.dc_claims.proofs.Bounds.{each_made}
 
 -- ---- a number of places that is enough for all atoms
 abbrev widest : List Atom → ℕ
@@ -27,10 +28,6 @@ widest (a ∷ hyps) = max (length a.coefs) (widest hyps)
 all_over : (n : ℕ) (hyps : List Atom) → widest hyps ≤ n → AreOver n hyps
 all_over n [] h = tt
 all_over n (a ∷ hyps) h = (omega arith, all_over n hyps (omega arith))
-
-pub each_made : (f : ℕ → ℚ) (a n : ℕ) → ((i : ℕ) → i < a + n → NonNegative (f i)) → AllByRecursion NonNegative (map f (range_with_len a n))
-each_made f a zero h = tt
-each_made f a (suc n) h = (h a (omega arith), each_made f (a + 1) n (λ i l. h i (omega arith)))
 
 module _ {X : Type 0} (state : X → List ℤ) (p : X) where
   abbrev value_of : Atom → ℚ

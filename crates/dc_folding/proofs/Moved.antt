@@ -1,14 +1,13 @@
 -- Points after the first of two edges that meet: what holds there after the second edge holds before after the two as one.
-use Rattle.std.specs.Prelude.{◌≡◌, ℕ, zero, suc, ◌+◌, ◌≤◌, true, leb, List, [], ◌∷◌, ◌++◌, map, length, replicate, ℤ, pos, ◌+ℤ◌, ◌*ℤ◌, ◌≤ℤ◌}
+use Rattle.std.specs.Prelude.{◌≡◌, ℕ, zero, suc, ◌+◌, ◌≤◌, true, leb, List, [], ◌∷◌, map, length, replicate, ℤ, pos, ◌+ℤ◌, ◌*ℤ◌, ◌≤ℤ◌}
 use Rattle.std.specs.List.{AllByRecursion}
 use Rattle.std.proofs.Common.{refl, sym, ap, ap₂, ◌∙◌, subst, arith}
 use Rattle.std.proofs.lemmas.Bool.{leb-true, le-leb}
-use Rattle.std.proofs.lemmas.List.{map-append, length-map}
+use Rattle.std.proofs.lemmas.List.{map-append, length-map, length-replicate}
 use Rattle.std.proofs.lemmas.Int.{ints}
 use Rattle.dc_math.specs.WholeVectors.{dot_ℤ, dot_ℤ-longer}
-use Rattle.dc_math.specs.WholeRing.{ring, reads, read_nat, same_form}
 use Rattle.dc_poly.specs.Terms.{coef, degree_of, Polynomial}
-use Rattle.dc_poly.specs.Sums.{zeros, values, composed as composed_terms, places_of}
+use Rattle.dc_poly.specs.Sums.{zeros, values, composed as composed_terms}
 use Rattle.dc_poly.specs.Affine.{units}
 use Rattle.dc_poly.proofs.Degrees.{AllLow, degree-composed}
 use Rattle.dc_poly.proofs.Padded.{AllPadded, Places-composed}
@@ -18,15 +17,16 @@ use Rattle.dc_affine.specs.declared.atom.Atom.{Atom}
 use Rattle.dc_affine.specs.Atoms.{atom_value}
 use Rattle.dc_affine.proofs.Units.{read_value, length-units}
 use Rattle.dc_system.specs.declared.edges.Edge.{Edge}
-use Rattle.dc_system.specs.Composed.{after, coef_at, atom_at, atoms_at, forms_at}
+use Rattle.dc_system.specs.Composed.{after, coef_at, atom_at, atoms_at}
 use Rattle.dc_system.specs.Edges.{chosen}
 use Rattle.dc_system.specs.After.{weighted, is_affine_after, atom_after, affine_part, affine_parts}
-use Rattle.dc_system.specs.Shapes.{IsForm, IsEdge}
+use Rattle.dc_system.specs.Shapes.{IsEdge}
 use Rattle.dc_system.proofs.AfterValues.{value-weighted, Places-weighted, Canonical-weighted, atom_after_value}
-use Rattle.dc_system.proofs.Crossings.{IsFlat, after_flat, Made}
+use Rattle.dc_system.proofs.Crossings.{IsFlat, after_flat, Made, forms_at_values}
 use Rattle.dc_points.specs.Points.{Point, left_at, MeetsAt, MeetsAll, whole_point}
+use Rattle.dc_points.proofs.Whole.{left_at-whole}
 use Rattle.dc_families.proofs.False.{image, left_image}
-use Rattle.dc_families.proofs.Reached.{dot-nothing, long-replicate}
+use Rattle.dc_families.proofs.Reached.{dot-nothing}
 
 -- ---- the point after the first edge, with the chosen value in the last place
 abbrev pub onward : ℕ → Edge → Edge
@@ -65,16 +65,6 @@ flat_parts n xs (v ∷ vs) h = ap₂ ◌∷◌ (by_one (coef v.terms (zeros (n +
     by_one : (c d : ℤ) → c *ℤ pos 1 +ℤ d ≡ c +ℤ d
     by_one c d = omega (arith, ints)
 
-left_whole : (a : Atom) (xs : List ℤ) → left_at a (whole_point xs) ≡ atom_value a xs
-left_whole a xs = by_one a.c0 (dot_ℤ a.coefs xs)
-  where
-    by_one : (c d : ℤ) → c *ℤ pos 1 +ℤ d ≡ c +ℤ d
-    by_one c d = omega (arith, ints)
-
-pub forms_at_values : (ps vs : List Polynomial) (xs : List ℤ) → values (forms_at ps vs) xs ≡ values ps (values vs xs)
-forms_at_values [] vs xs = refl
-forms_at_values (p ∷ ps) vs xs = ap₂ ◌∷◌ (value-composed (places_of vs) p.terms vs xs) (forms_at_values ps vs xs)
-
 -- ---- atoms that have equal values are equal
 same_dots : (n : ℕ) (cs ds : List ℤ) → length cs ≡ n → length ds ≡ n → ((xs : List ℤ) → length xs ≡ n → dot_ℤ cs xs ≡ dot_ℤ ds xs) → cs ≡ ds
 same_dots n [] [] l m h = refl
@@ -82,7 +72,7 @@ same_dots n [] (d ∷ ds) l m h = absurd (omega arith)
 same_dots n (c ∷ cs) [] l m h = absurd (omega arith)
 same_dots zero (c ∷ cs) (d ∷ ds) l m h = absurd (omega arith)
 same_dots (suc n) (c ∷ cs) (d ∷ ds) l m h =
-    ap₂ ◌∷◌ (first c d _ _ (dot-nothing cs n) (dot-nothing ds n) (h (pos 1 ∷ replicate n (pos 0)) (ap suc (long-replicate n))))
+    ap₂ ◌∷◌ (first c d _ _ (dot-nothing cs n) (dot-nothing ds n) (h (pos 1 ∷ replicate n (pos 0)) (ap suc (length-replicate n (pos 0)))))
     (same_dots n cs ds (omega arith) (omega arith) (λ xs k. rest c d _ _ (h (pos 0 ∷ xs) (ap suc k))))
   where
     first : (c d x y : ℤ) → x ≡ pos 0 → y ≡ pos 0 → c *ℤ pos 1 +ℤ x ≡ d *ℤ pos 1 +ℤ y → c ≡ d
@@ -93,7 +83,7 @@ same_dots (suc n) (c ∷ cs) (d ∷ ds) l m h =
 
 same_atoms : (n : ℕ) (a b : Atom) → length a.coefs ≡ n → length b.coefs ≡ n → ((xs : List ℤ) → length xs ≡ n → atom_value a xs ≡ atom_value b xs) → a ≡ b
 same_atoms n a b l m h =
-    let c : a.c0 ≡ b.c0 = constants a.c0 b.c0 _ _ (dot-nothing a.coefs n) (dot-nothing b.coefs n) (h (replicate n (pos 0)) (long-replicate n)) in
+    let c : a.c0 ≡ b.c0 = constants a.c0 b.c0 _ _ (dot-nothing a.coefs n) (dot-nothing b.coefs n) (h (replicate n (pos 0)) (length-replicate n (pos 0))) in
     ap₂ (λ c cs. record { c0 = c; coefs = cs }) c (same_dots n a.coefs b.coefs l m (λ xs k. cancel a.c0 b.c0 _ _ c (h xs k)))
   where
     constants : (c d x y : ℤ) → x ≡ pos 0 → y ≡ pos 0 → c +ℤ x ≡ d +ℤ y → c ≡ d
@@ -111,13 +101,6 @@ all_padded : (m : ℕ) (vs : List Polynomial) → AllByRecursion (IsFlat m) vs �
 all_padded m [] h = tt
 all_padded m (v ∷ vs) h = (h.0.padded, all_padded m vs h.1)
 
-after_places : (n : ℕ) (e : Edge) → IsEdge n e → places_of (after n e) ≡ n + 1
-after_places n e w = by e.update w.updates
-  where
-    by : (us : List Polynomial) → AllByRecursion (IsForm (n + 1)) us → places_of (us ++ chosen n ∷ []) ≡ n + 1
-    by [] h = refl
-    by (u ∷ us) h = h.0.has_places
-
 module _ (n : ℕ) (e f c : Edge) (we : IsEdge n e) (wf : IsEdge n f) (wc : IsEdge n c) (made : Made n e f c) where
   flat : AllByRecursion (IsFlat (n + 1)) (after n e)
   flat = after_flat n e we made.can.flat
@@ -131,7 +114,7 @@ module _ (n : ℕ) (e f c : Edge) (we : IsEdge n e) (wf : IsEdge n f) (wc : IsEd
   -- an atom before the edge has the value that it has at the state after it
   pub value_moved : (a : Atom) (xs : List ℤ) → atom_value (atom_at (n + 1) a (after n e)) xs ≡ atom_value a (state_after xs)
   value_moved a xs =
-      sym (left_whole (atom_at (n + 1) a (after n e)) xs) ∙ left_moved n e (whole_point xs) a
+      sym (left_at-whole (atom_at (n + 1) a (after n e)) xs) ∙ left_moved n e (whole_point xs) a
       ∙ by_one a.c0 (dot_ℤ a.coefs (moved n e (whole_point xs)).numbers) ∙ ap (λ ys. a.c0 +ℤ dot_ℤ a.coefs ys) (moved_whole xs)
     where
       by_one : (c d : ℤ) → c *ℤ pos 1 +ℤ d ≡ c +ℤ d

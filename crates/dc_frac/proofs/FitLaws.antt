@@ -19,7 +19,7 @@ use Rattle.dc_frac.proofs.ProductLaws.{product_parts}
 pub small_true : (z : ℤ) → IsSmall z → is_small z ≡ true
 small_true z h = grind (arith, common_steps)
 
-true_small : (z : ℤ) → is_small z ≡ true → IsSmall z
+pub true_small : (z : ℤ) → is_small z ≡ true → IsSmall z
 true_small z e = grind (arith, common_steps)
 
 module _ (a b c d g : ℤ) where

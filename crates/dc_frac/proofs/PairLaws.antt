@@ -1,10 +1,9 @@
 -- The laws of pairs, by those of the numbers that they stand for.
-use Rattle.std.specs.Prelude.{◌≡◌, pos, ◌≤ℤ◌, unsigned_abs}
-use Rattle.std.proofs.Common.{refl, sym, ◌∙◌, ap, ap₂, arith, subst, subst₂, inl, inr, ⊎_elim}
-use Rattle.std.proofs.lemmas.Int.{ints}
-use Rattle.dc_math.specs.Rational.{Fraction, ratio, ratio_same, same_ratio, ratio_at_most, at_most_ratio, ratio-add, ratio-mul, ratio-neg, of_ℤ, of_ℤ_is, fraction_of, ◌≤ℚ◌, NonNegative, ◌+ℚ◌, ◌*ℚ◌, +ℚ_comm, +ℚ_assoc, *ℚ_comm, *ℚ_assoc, *ℚ-+ℚ, ≤ℚ_refl, ≤ℚ_antisymm, ≤ℚ_total}
+use Rattle.std.specs.Prelude.{◌≡◌, pos, unsigned_abs}
+use Rattle.std.proofs.Common.{refl, sym, ◌∙◌, ap, ap₂, subst₂, inl, inr, ⊎_elim}
+use Rattle.dc_math.specs.Rational.{ratio, ratio_same, same_ratio, ratio_at_most, at_most_ratio, ratio-add, ratio-mul, ratio-neg, of_ℤ, of_ℤ_is, fraction_of, ◌≤ℚ◌, ◌+ℚ◌, ◌*ℚ◌, +ℚ_comm, +ℚ_assoc, *ℚ_comm, *ℚ_assoc, *ℚ-+ℚ, ≤ℚ_refl, ≤ℚ_antisymm, ≤ℚ_total, +ℚ-zero, *ℚ-one, non_negative_num}
 use Rattle.dc_math.specs.RationalRing.{≤ℚ_trans, +ℚ-≤ℚ, *ℚ-≤ℚ}
-use Rattle.dc_math.specs.RationalField.{+ℚ-zero, +ℚ-neg_ℚ, *ℚ-one}
+use Rattle.dc_math.specs.RationalField.{+ℚ-neg_ℚ}
 use Rattle.dc_math.specs.Lowest.{ratio-lowest, lowest_reduced, lowest-of_reduced}
 use Rattle.dc_math.specs.Floor.{floor-≤ℚ, <ℚ-floor}
 use Rattle.dc_math.specs.Gcd.{gcd_is}
@@ -43,9 +42,6 @@ products = record {
   mul_add = λ p q r. same_ratio _ _ (sym (ratio-mul p _) ∙ ap (λ x. ratio p *ℚ x) (sym (ratio-add q r)) ∙ *ℚ-+ℚ (ratio p) (ratio q) (ratio r) ∙ ap₂ ◌+ℚ◌ (ratio-mul p q) (ratio-mul p r) ∙ ratio-add _ _);
 }
 
-at_least_zero : (r : Fraction) → pos 0 ≤ℤ r.num → NonNegative (ratio r)
-at_least_zero r h = subst (λ x. x ≤ℚ ratio r) zero_is (ratio_at_most (fraction_of (pos 0)) r (omega (arith, ints)))
-
 pub order : Order
 order = record {
   at_most_refl = λ p. at_most_ratio p p (≤ℚ_refl (ratio p));
@@ -53,7 +49,7 @@ order = record {
   at_most_antisymm = λ p q h k. same_ratio p q (≤ℚ_antisymm _ _ (ratio_at_most p q h) (ratio_at_most q p k));
   at_most_total = λ p q. ⊎_elim (λ h. inl (at_most_ratio p q h)) (λ h. inr (at_most_ratio q p h)) (≤ℚ_total (ratio p) (ratio q));
   add_at_most = λ p p' q q' h k. at_most_ratio _ _ (subst₂ (λ x y. x ≤ℚ y) (ratio-add p q) (ratio-add p' q') (+ℚ-≤ℚ _ _ _ _ (ratio_at_most p p' h) (ratio_at_most q q' k)));
-  mul_at_most = λ p q r h k. at_most_ratio _ _ (subst₂ (λ x y. x ≤ℚ y) (ratio-mul p r) (ratio-mul q r) (*ℚ-≤ℚ _ _ _ (ratio_at_most p q h) (at_least_zero r k)));
+  mul_at_most = λ p q r h k. at_most_ratio _ _ (subst₂ (λ x y. x ≤ℚ y) (ratio-mul p r) (ratio-mul q r) (*ℚ-≤ℚ _ _ _ (ratio_at_most p q h) (non_negative_num r k)));
 }
 
 pub numbers : Numbers

@@ -1,13 +1,14 @@
 -- The product of two reduced fractions, each numerator divided by its common divisor with the other's denominator, is reduced.
 use Rattle.std.specs.Prelude.{◌≡◌, ℕ, ◌*◌, ◌<◌, ℤ, pos, ◌*ℤ◌, ◌≤ℤ◌, unsigned_abs, int_div, [], ◌∷◌}
-use Rattle.std.proofs.Common.{mul_comm, refl, sym, ◌∙◌, ap₂, subst, subst₂, arith}
-use Rattle.std.proofs.lemmas.Int.{ints, unsigned_abs-mul}
+use Rattle.std.proofs.Common.{mul_comm, refl, sym, ◌∙◌, ap₂, subst, subst₂}
+use Rattle.std.proofs.lemmas.Int.{unsigned_abs-mul}
 use Rattle.std.proofs.Math.Nat.{dvd-mul_right, dvd_trans}
 use Prim.Native.Nat.{◌∣◌}
 use Rattle.dc_math.specs.Rational.{product_positive}
 use Rattle.dc_math.specs.Gcd.{gcd, gcd_is, gcd_positive, Coprime, Coprime-gcd, gcd-Coprime, Coprime-swap, Coprime-*, Coprime_parts}
 use Rattle.dc_math.specs.Quotients.{exact_quotient, size_of_product, positive_factor}
 use Rattle.dc_math.specs.WholeRing.{ring, reads, same_form}
+use Rattle.dc_math.specs.Integers.{size_positive}
 use Rattle.dc_frac.specs.Parts.{product_num, product_den}
 
 pub record ProductParts (a b c d : ℤ) : Type 0 where
@@ -28,16 +29,13 @@ product_equal a b c d a' b' c' d' g h ea ed ec eb =
     ∙ ring (a' ∷ b' ∷ c' ∷ d' ∷ g ∷ h ∷ []) (λ ρ p q r s t u. simp (p, q, r, s, t, u, reads) (same_form _ _ _ refl))
     ∙ ap₂ (λ x y. (x *ℤ y) *ℤ (b' *ℤ d')) ea ec
 
-positive_size : (b : ℤ) → pos 1 ≤ℤ b → 0 < unsigned_abs b
-positive_size b h = omega (arith, ints)
-
 module _ (a b c d : ℤ) (pb : pos 1 ≤ℤ b) (pd : pos 1 ≤ℤ d) (ab : gcd (unsigned_abs a) (unsigned_abs b) ≡ 1) (cd : gcd (unsigned_abs c) (unsigned_abs d) ≡ 1) where
   pub product_parts : ProductParts a b c d
   product_parts =
       let g = gcd (unsigned_abs a) (unsigned_abs d) in
       let h = gcd (unsigned_abs c) (unsigned_abs b) in
-      let some_g : 0 < g = gcd_positive (unsigned_abs a) (unsigned_abs d) (positive_size d pd) in
-      let some_h : 0 < h = gcd_positive (unsigned_abs c) (unsigned_abs b) (positive_size b pb) in
+      let some_g : 0 < g = gcd_positive (unsigned_abs a) (unsigned_abs d) (size_positive d pd) in
+      let some_h : 0 < h = gcd_positive (unsigned_abs c) (unsigned_abs b) (size_positive b pb) in
       let a' = int_div a (pos g) in
       let d' = int_div d (pos g) in
       let c' = int_div c (pos h) in

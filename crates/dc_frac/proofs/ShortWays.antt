@@ -5,7 +5,7 @@ use Rattle.std.proofs.lemmas.Int.{ints}
 use Rattle.std.proofs.lemmas.Nat.Gcd.{dvd_refl}
 use Rattle.std.proofs.Math.Nat.{eq-one_of_dvd-one, one-dvd}
 use Prim.Native.Nat.{◌∣◌}
-use Rattle.dc_math.specs.Integers.{one-*ℤ, *ℤ_cancel}
+use Rattle.dc_math.specs.Integers.{one-*ℤ, *ℤ_cancel, *ℤ-one}
 use Rattle.dc_math.specs.Gcd.{gcd, gcd_is, IsGcd-gcd}
 use Rattle.dc_math.specs.Quotients.{gcd_ℤ, exact_quotient, quotient_size}
 use Rattle.dc_frac.specs.Fits.{IsSmall}
@@ -16,11 +16,8 @@ pub some_iff : {A : Type 0} (r : Option A) (P Q : Type 0) (v w : A) → (P → Q
 some_iff None P Q v w f g e h = λ q. h (g q)
 some_iff (Some x) P Q v w f g e h = (f h.0, h.1 ∙ e)
 
-pub times_one : (x : ℤ) → x *ℤ pos 1 ≡ x
-times_one x = omega (arith, ints)
-
 pub div_one : (x : ℤ) → int_div x (pos 1) ≡ x
-div_one x = sym (times_one (int_div x (pos 1))) ∙ exact_quotient x 1 (one_divides x)
+div_one x = sym (*ℤ-one (int_div x (pos 1))) ∙ exact_quotient x 1 (one_divides x)
   where
     one_divides : (x : ℤ) → 1 ∣ unsigned_abs x
     one_divides x = one-dvd (unsigned_abs x)
@@ -49,17 +46,17 @@ module _ (a c d : ℤ) (h : pos 1 ≤ℤ d) (sa : IsSmall a) (sc : IsSmall c) (s
   over_fits t =
       let s = div_self d h in
       record {
-        left = simp (s, times_one) sa;
-        right = simp (s, times_one) sc;
-        total = simp (s, times_one) t;
-        den = simp (s, times_one, one-*ℤ) (part_small d _ sd);
+        left = simp (s, *ℤ-one) sa;
+        right = simp (s, *ℤ-one) sc;
+        total = simp (s, *ℤ-one) t;
+        den = simp (s, *ℤ-one, one-*ℤ) (part_small d _ sd);
       }
 
   fits_over : SumFits a d c d d → IsSmall (a +ℤ c)
-  fits_over f = let s = div_self d h in simp (s, times_one) at f.total
+  fits_over f = let s = div_self d h in simp (s, *ℤ-one) at f.total
 
   over_same : over_pair a c d ≡ sum_pair a d c d d
-  over_same = let s = div_self d h in simp (s, times_one, one-*ℤ) refl
+  over_same = let s = div_self d h in simp (s, *ℤ-one, one-*ℤ) refl
 
   pub over_short : (r : Option (ℤ × ℤ)) → SomeIff r (IsSmall (a +ℤ c)) (over_pair a c d) → SomeIff r (SumFits a d c d (gcd_ℤ d d)) (sum_pair a d c d (gcd_ℤ d d))
   over_short r k = subst (λ g. SomeIff r (SumFits a d c d g) (sum_pair a d c d g)) (sym (gcd_self d h)) (some_iff r _ _ _ _ over_fits fits_over over_same k)

@@ -12,10 +12,11 @@ use Rattle.dc_math.specs.Rational.{ℚ, Fraction, fraction_of, fraction_neg, fra
 use Rattle.dc_math.specs.Inverse.{inverse, inverse_unique, *ℚ-inverse, ◌/ℚ◌}
 use Rattle.dc_math.specs.Order.{ratio_quotient}
 use Rattle.dc_math.specs.Lowest.{lowest, ratio-lowest, lowest_reduced, lowest-of_reduced}
+use Rattle.dc_math.specs.Integers.{size-neg_ℤ, size_positive, *ℤ-one}
 use Rattle.dc_frac.specs.Fits.{is_small, fits, product_fits, quotient_fits, sum_fits, difference_fits, parts_fit, rule_fits, sum_total, sum_den, IsWithin}
 use Rattle.dc_frac.specs.Laws.{SmallNumbers}
 use Rattle.dc_frac.proofs.FitLaws.{small_true}
-use Rattle.dc_frac.proofs.ShortWays.{times_one, div_one, gcd_nat_one, gcd_one}
+use Rattle.dc_frac.proofs.ShortWays.{div_one, gcd_nat_one, gcd_one}
 use Rattle.dc_frac.proofs.Values.{product_one}
 
 -- ---- sizes of products and of sums
@@ -37,8 +38,6 @@ pub small_below : (n : ℕ) (z : ℤ) → unsigned_abs z < 2 ^ n → n ≤ 127 �
 small_below n z h l = small_true z (lt_of_lt_of_le h (pow_mono l))
 
 -- ---- lowest terms are no larger
-positive_size : (b : ℤ) → pos 1 ≤ℤ b → 0 < unsigned_abs b
-positive_size b h = omega (arith, ints)
 
 -- a/b in lowest terms against the pair c/d of the same number
 module _ (a b c d : ℤ) (pb : pos 1 ≤ℤ b) (pd : pos 1 ≤ℤ d) (e : a *ℤ d ≡ c *ℤ b) where
@@ -46,10 +45,10 @@ module _ (a b c d : ℤ) (pb : pos 1 ≤ℤ b) (pd : pos 1 ≤ℤ d) (e : a *ℤ
   crossed = sym (unsigned_abs-mul a d) ∙ ap unsigned_abs e ∙ unsigned_abs-mul c b
 
   den_size : (unsigned_abs b ∣ unsigned_abs d) → unsigned_abs b ≤ unsigned_abs d
-  den_size h = le_of_dvd (positive_size d pd) h
+  den_size h = le_of_dvd (size_positive d pd) h
 
   num_size : unsigned_abs b ≤ unsigned_abs d → unsigned_abs a ≤ unsigned_abs c
-  num_size h = le_of_mul-le-mul_right {k = unsigned_abs d} (le_trans (le_of_eq crossed) (mul-le-mul_left (unsigned_abs c) h)) (positive_size d pd)
+  num_size h = le_of_mul-le-mul_right {k = unsigned_abs d} (le_trans (le_of_eq crossed) (mul-le-mul_left (unsigned_abs c) h)) (size_positive d pd)
 
 same_pair : (x : ℚ) (p : Fraction) → ratio p ≡ x → (lowest x).num *ℤ p.den ≡ p.num *ℤ (lowest x).den
 same_pair x p e = same_ratio (lowest x) p (ratio-lowest x ∙ sym e)
@@ -86,14 +85,11 @@ whole_within n z l h = record { pair = fraction_of z; is = sym (of_ℤ_is z); nu
 pub ratio_within : (n : ℕ) (z d : ℤ) → pos 1 ≤ℤ d → unsigned_abs z < 2 ^ n → unsigned_abs d < 2 ^ n → IsWithin n (of_ℤ z /ℚ of_ℤ d)
 ratio_within n z d p h k = record { pair = record { num = z; den = d; den_positive = p }; is = ratio_quotient (record { num = z; den = d; den_positive = p }); num = h; den = k }
 
-neg_size : (z : ℤ) → unsigned_abs (neg_ℤ z) ≡ unsigned_abs z
-neg_size z = omega (arith, ints)
-
 pub neg_within : (n : ℕ) (x : ℚ) → IsWithin n x → IsWithin n (neg_ℚ x)
 neg_within n x h = record {
   pair = fraction_neg h.pair;
   is = sym (ratio-neg h.pair) ∙ ap neg_ℚ h.is;
-  num = subst (λ k. k < 2 ^ n) (sym (neg_size h.pair.num)) h.num;
+  num = subst (λ k. k < 2 ^ n) (sym (size-neg_ℤ h.pair.num)) h.num;
   den = h.den;
 }
 
@@ -141,8 +137,8 @@ inverse_within n x nz h = by h.pair.num refl
         record {
           pair = record { num = neg_ℤ h.pair.den; den = neg_ℤ h.pair.num; den_positive = some };
           is = turned h.pair x (neg_ℤ h.pair.den) (neg_ℤ h.pair.num) some h.is nz (swapped_signs h.pair.num h.pair.den);
-          num = subst (λ k. k < 2 ^ n) (sym (neg_size h.pair.den)) h.den;
-          den = subst (λ k. k < 2 ^ n) (sym (neg_size h.pair.num)) h.num;
+          num = subst (λ k. k < 2 ^ n) (sym (size-neg_ℤ h.pair.den)) h.den;
+          den = subst (λ k. k < 2 ^ n) (sym (size-neg_ℤ h.pair.num)) h.num;
         }
 
 pub quotient_within : (m n : ℕ) (x y : ℚ) → ¬ (y ≡ of_ℤ (pos 0)) → IsWithin m x → IsWithin n y → IsWithin (m + n) (x /ℚ y)
@@ -196,7 +192,7 @@ pub steps_fit : (x y z : ℚ) → IsWithin 41 x → IsWithin 41 y → IsWithin 4
 steps_fit x y z h k l = differences_fit 41 82 z (x *ℚ y) l (product_within 41 41 x y h k) (omega arith)
 
 -- ---- whole numbers
-lowest-whole : (z : ℤ) → lowest (of_ℤ z) ≡ fraction_of z
+pub lowest-whole : (z : ℤ) → lowest (of_ℤ z) ≡ fraction_of z
 lowest-whole z = ap lowest (of_ℤ_is z) ∙ lowest-of_reduced (fraction_of z) (gcd_nat_one (unsigned_abs z))
 
 pub whole_fits : (z : ℤ) → unsigned_abs z < 2 ^ 127 → fits (of_ℤ z) ≡ true
@@ -213,7 +209,7 @@ whole_rule z w h k =
     (ap is_small one ∙ small_true (pos 1) (omega arith))
   where
     part : (z : ℤ) → unsigned_abs z < 2 ^ 126 → unsigned_abs (z *ℤ int_div (pos 1) (pos 1)) < 2 ^ 126
-    part z h = rw (div_one (pos 1), times_one z) h
+    part z h = rw (div_one (pos 1), *ℤ-one z) h
 
     one : sum_den z (pos 1) w (pos 1) (pos 1) ≡ pos 1
     one = ap₂ ◌*ℤ◌ (div_one (pos 1)) (ap (int_div (pos 1)) (gcd_one (sum_total z (pos 1) w (pos 1) (pos 1))) ∙ div_one (pos 1))

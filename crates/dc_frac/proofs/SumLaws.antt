@@ -1,13 +1,14 @@
 -- The sum of two reduced fractions by the common divisor of their denominators is reduced, and is their sum.
 use Rattle.std.specs.Prelude.{◌≡◌, ℕ, ◌*◌, ◌/◌, ◌<◌, ◌≤◌, ℤ, pos, ◌+ℤ◌, ◌*ℤ◌, ◌≤ℤ◌, unsigned_abs, int_div, [], ◌∷◌}
-use Rattle.std.proofs.Common.{mul_assoc, mul_comm, refl, sym, ◌∙◌, ap, ap₂, subst, arith}
-use Rattle.std.proofs.lemmas.Int.{ints, unsigned_abs-mul}
+use Rattle.std.proofs.Common.{mul_assoc, mul_comm, refl, sym, ◌∙◌, ap, ap₂, subst}
+use Rattle.std.proofs.lemmas.Int.{unsigned_abs-mul}
 use Rattle.std.proofs.Math.Nat.{div-mul_cancel, dvd-mul_right, dvd_trans, mul-div_cancel}
 use Prim.Native.Nat.{◌∣◌}
 use Rattle.dc_math.specs.Rational.{product_positive}
 use Rattle.dc_math.specs.Gcd.{gcd, gcd_is, gcd_positive, Coprime, Coprime-gcd, gcd-Coprime, Coprime-swap, Coprime-*, Coprime_of_dvd, Coprime_parts, Coprime-sum}
 use Rattle.dc_math.specs.Quotients.{gcd_ℤ, exact_quotient, quotient_size, size_of_product, positive_factor}
 use Rattle.dc_math.specs.WholeRing.{ring, reads, same_form}
+use Rattle.dc_math.specs.Integers.{size_positive}
 use Rattle.dc_frac.specs.Fits.{sum_total, sum_den}
 
 -- b = b'g, d = d'g = d''e, w = a d' + c b' = ne
@@ -30,16 +31,13 @@ pub record SumParts (a b c d n f : ℤ) : Type 0 where
   pub size : unsigned_abs n ≤ unsigned_abs (sum_total a b c d (gcd_ℤ b d))
   pub equal : n *ℤ (b *ℤ d) ≡ (a *ℤ d +ℤ c *ℤ b) *ℤ f
 
-positive_size : (b : ℤ) → pos 1 ≤ℤ b → 0 < unsigned_abs b
-positive_size b h = omega (arith, ints)
-
 module _ (a b c d : ℤ) (pb : pos 1 ≤ℤ b) (pd : pos 1 ≤ℤ d) (ab : gcd (unsigned_abs a) (unsigned_abs b) ≡ 1) (cd : gcd (unsigned_abs c) (unsigned_abs d) ≡ 1) where
   pub sum_parts : SumParts a b c d (int_div (sum_total a b c d (gcd_ℤ b d)) (gcd_ℤ (sum_total a b c d (gcd_ℤ b d)) (gcd_ℤ b d))) (sum_den a b c d (gcd_ℤ b d))
   sum_parts =
       let g = gcd (unsigned_abs b) (unsigned_abs d) in
       let w = sum_total a b c d (gcd_ℤ b d) in
       let e = gcd (unsigned_abs w) g in
-      let some_g : 0 < g = gcd_positive (unsigned_abs b) (unsigned_abs d) (positive_size d pd) in
+      let some_g : 0 < g = gcd_positive (unsigned_abs b) (unsigned_abs d) (size_positive d pd) in
       let some_e : 0 < e = gcd_positive (unsigned_abs w) g some_g in
       let b' = int_div b (pos g) in
       let d' = int_div d (pos g) in

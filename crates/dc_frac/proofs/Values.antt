@@ -1,5 +1,5 @@
 -- The value of a fraction by its parts.
-use Rattle.std.specs.Prelude.{◌≡◌, ◌≢◌, zero, suc, ◌<◌, ◌^◌, ℤ, pos, negsuc, neg_ℤ, ◌*ℤ◌, ◌≤ℤ◌, ◌<ℤ◌, unsigned_abs, int_div, Bool, true, false, [], ◌∷◌}
+use Rattle.std.specs.Prelude.{◌≡◌, ◌≢◌, zero, suc, ◌<◌, ◌^◌, ℤ, pos, negsuc, neg_ℤ, ◌*ℤ◌, ◌≤ℤ◌, ◌<ℤ◌, unsigned_abs, int_div, true, false, [], ◌∷◌}
 use Rattle.std.proofs.Common.{refl, sym, ◌∙◌, ap, ap₂, subst, arith, lt_of_le_of_lt, mul_comm}
 use Rattle.std.specs.Int.{int_div_euclid}
 use Rattle.std.proofs.lemmas.Int.{ints}
@@ -13,6 +13,7 @@ use Rattle.dc_math.specs.Order.{ratio_below, below_ratio, ratio_quotient, invers
 use Rattle.dc_math.specs.RationalRing as rational
 use Rattle.dc_math.specs.Tests.{is_zero, is_negative, is_positive, eq_ℚ-true, eq_ℚ_true, eq_ℚ_false, lt_ℚ-true, lt_ℚ_true}
 use Rattle.dc_math.specs.Floor.{floor, floor-ratio}
+use Rattle.dc_math.specs.Integers.{size_positive}
 use Rattle.dc_frac.specs.declared.Frac.{Frac}
 use Rattle.dc_frac.specs.Fits.{IsSmall}
 use Rattle.dc_frac.specs.Value.{fraction, value}
@@ -53,7 +54,7 @@ neg_parts f = record {
 pub lowest_parts : (n d : ℤ) → pos 1 ≤ℤ d → IsSmall n → Parts (int_div n (gcd_ℤ n d)) (int_div d (gcd_ℤ n d)) (of_ℤ n *ℚ inverse (of_ℤ d))
 lowest_parts n d h s =
     let g = gcd (unsigned_abs n) (unsigned_abs d) in
-    let some : 0 < g = gcd_positive (unsigned_abs n) (unsigned_abs d) (size d h) in
+    let some : 0 < g = gcd_positive (unsigned_abs n) (unsigned_abs d) (size_positive d h) in
     let en : int_div n (pos g) *ℤ pos g ≡ n = exact_quotient n g (gcd_is (unsigned_abs n) (unsigned_abs d)).0 in
     let ed : int_div d (pos g) *ℤ pos g ≡ d = exact_quotient d g (gcd_is (unsigned_abs n) (unsigned_abs d)).1 in
     let p = positive_factor (int_div d (pos g)) g d ed h in
@@ -65,9 +66,6 @@ lowest_parts n d h s =
           ∙ ratio_quotient (record { num = n; den = d; den_positive = h });
     }
   where
-    size : (d : ℤ) → pos 1 ≤ℤ d → 0 < unsigned_abs d
-    size d h = omega (arith, ints)
-
     crossed : (n d m e g : ℤ) → m *ℤ g ≡ n → e *ℤ g ≡ d → m *ℤ d ≡ n *ℤ e
     crossed n d m e g p q = ap (λ x. m *ℤ x) (sym q) ∙ ring (m ∷ e ∷ g ∷ []) (λ ρ i j k. simp (i, j, k, reads) (same_form _ _ _ refl)) ∙ ap (λ x. x *ℤ e) p
 
@@ -143,11 +141,6 @@ turned_quotient n d h =
   where
     signs : (x y : ℚ) → neg_ℚ x *ℚ neg_ℚ y ≡ x *ℚ y
     signs x y = rational.ring (x ∷ y ∷ []) (λ ρ p q. simp (p, q, rational.reads) (rational.same_form _ _ _ refl))
-
-pub same_test : (b c : Bool) → (b ≡ true → c ≡ true) → (c ≡ true → b ≡ true) → b ≡ c
-same_test true c f g = sym (f refl)
-same_test false true f g = g refl
-same_test false false f g = refl
 
 pub positive_num : (f : Frac) → is_zero (value f) ≡ false → pos 0 ≤ℤ f.num → pos 1 ≤ℤ f.num
 positive_num f n h = by f.num (λ e. both_ways (is_zero (value f)) n (zero_num f e)) h

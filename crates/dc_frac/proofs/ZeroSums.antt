@@ -2,19 +2,20 @@
 use Rattle.std.specs.Prelude.{◌≡◌, ℤ, pos, ◌+ℤ◌, ◌*ℤ◌, neg_ℤ, unsigned_abs, int_div, Bool, true, false, ◌&&◌, nat_lt, ◌^◌}
 use Rattle.std.proofs.Common.{refl, sym, ◌∙◌, ap, ap₂, arith}
 use Rattle.std.proofs.lemmas.Bool.{and_from}
-use Rattle.std.proofs.lemmas.Int.{ints}
 use Rattle.std.proofs.Math.Nat.{eq-one_of_dvd-one}
+use Rattle.std.proofs.Math.IntN.{zero-*ℤ, +ℤ_idl, +ℤ_idr}
 use Rattle.dc_math.specs.Gcd.{gcd, gcd_is}
 use Rattle.dc_math.specs.Quotients.{gcd_ℤ}
 use Rattle.dc_math.specs.Rational.{ℚ, Fraction, fraction_of, fraction_neg, ratio-neg, of_ℤ, of_ℤ_is, neg_ℚ, ◌*ℚ◌}
 use Rattle.dc_math.specs.Order.{of_ℤ-neg_ℤ}
 use Rattle.dc_math.specs.Lowest.{lowest, ratio-lowest, lowest_reduced, lowest-of_reduced}
+use Rattle.dc_math.specs.Integers.{size-neg_ℤ, one-*ℤ, *ℤ-one}
 use Rattle.dc_frac.specs.declared.Frac.{Frac}
 use Rattle.dc_frac.specs.Fits.{IsSmall, is_small, fits, product_fits, parts_fit, rule_fits, sum_fits, sum_total, sum_den, difference_fits}
 use Rattle.dc_frac.specs.Value.{value}
 use Rattle.dc_frac.proofs.ValueLaws.{lowest-value}
 use Rattle.dc_frac.proofs.FitLaws.{small_true}
-use Rattle.dc_frac.proofs.ShortWays.{times_one, div_one, gcd_nat_one, gcd_one}
+use Rattle.dc_frac.proofs.ShortWays.{div_one, gcd_nat_one, gcd_one}
 
 once : (x z y : Bool) → z ≡ true → (x && z && x && y) ≡ (x && y)
 once true true y e = refl
@@ -46,46 +47,31 @@ right_parts : (a b : ℤ) → rule_fits a b (pos 0) (pos 1) (pos 1) ≡ (is_smal
 right_parts a b = right_rule a b _ _ (sum_total a b (pos 0) (pos 1) (pos 1)) (sum_den a b (pos 0) (pos 1) (pos 1)) left right total den
   where
     left : a *ℤ int_div (pos 1) (pos 1) ≡ a
-    left = ap (λ y. a *ℤ y) (div_one (pos 1)) ∙ times_one a
+    left = ap (λ y. a *ℤ y) (div_one (pos 1)) ∙ *ℤ-one a
 
     right : pos 0 *ℤ int_div b (pos 1) ≡ pos 0
-    right = none (int_div b (pos 1))
-      where
-        none : (y : ℤ) → pos 0 *ℤ y ≡ pos 0
-        none y = omega (arith, ints)
+    right = zero-*ℤ (int_div b (pos 1))
 
     total : sum_total a b (pos 0) (pos 1) (pos 1) ≡ a
-    total = ap₂ ◌+ℤ◌ left right ∙ plus_zero a
-      where
-        plus_zero : (y : ℤ) → y +ℤ pos 0 ≡ y
-        plus_zero y = omega (arith, ints)
+    total = ap₂ ◌+ℤ◌ left right ∙ +ℤ_idr a
 
     den : sum_den a b (pos 0) (pos 1) (pos 1) ≡ b
-    den = ap₂ ◌*ℤ◌ (div_one b) (by_one (pos 1) _ (gcd_one (sum_total a b (pos 0) (pos 1) (pos 1)))) ∙ times_one b
+    den = ap₂ ◌*ℤ◌ (div_one b) (by_one (pos 1) _ (gcd_one (sum_total a b (pos 0) (pos 1) (pos 1)))) ∙ *ℤ-one b
 
 left_parts : (c d : ℤ) → rule_fits (pos 0) (pos 1) c d (pos 1) ≡ (is_small c && is_small d)
 left_parts c d = left_rule c d _ _ (sum_total (pos 0) (pos 1) c d (pos 1)) (sum_den (pos 0) (pos 1) c d (pos 1)) left right total den
   where
     left : pos 0 *ℤ int_div d (pos 1) ≡ pos 0
-    left = none (int_div d (pos 1))
-      where
-        none : (y : ℤ) → pos 0 *ℤ y ≡ pos 0
-        none y = omega (arith, ints)
+    left = zero-*ℤ (int_div d (pos 1))
 
     right : c *ℤ int_div (pos 1) (pos 1) ≡ c
-    right = ap (λ y. c *ℤ y) (div_one (pos 1)) ∙ times_one c
+    right = ap (λ y. c *ℤ y) (div_one (pos 1)) ∙ *ℤ-one c
 
     total : sum_total (pos 0) (pos 1) c d (pos 1) ≡ c
-    total = ap₂ ◌+ℤ◌ left right ∙ zero_plus c
-      where
-        zero_plus : (y : ℤ) → pos 0 +ℤ y ≡ y
-        zero_plus y = omega (arith, ints)
+    total = ap₂ ◌+ℤ◌ left right ∙ +ℤ_idl c
 
     den : sum_den (pos 0) (pos 1) c d (pos 1) ≡ d
-    den = ap₂ ◌*ℤ◌ (div_one (pos 1)) (by_one d _ (gcd_one (sum_total (pos 0) (pos 1) c d (pos 1)))) ∙ one_times d
-      where
-        one_times : (y : ℤ) → pos 1 *ℤ y ≡ y
-        one_times y = omega (arith, ints)
+    den = ap₂ ◌*ℤ◌ (div_one (pos 1)) (by_one d _ (gcd_one (sum_total (pos 0) (pos 1) c d (pos 1)))) ∙ one-*ℤ d
 
 lowest_zero : lowest (of_ℤ (pos 0)) ≡ fraction_of (pos 0)
 lowest_zero = ap lowest (of_ℤ_is (pos 0)) ∙ lowest-of_reduced (fraction_of (pos 0)) (gcd_nat_one 0)
@@ -112,20 +98,18 @@ pub product_fits-zero : (x y : ℚ) → x *ℚ y ≡ of_ℤ (pos 0) → product_
 product_fits-zero x y e = ap fits e ∙ fits-zero
 
 -- ---- differences
-neg_size : (z : ℤ) → unsigned_abs (neg_ℤ z) ≡ unsigned_abs z
-neg_size z = omega (arith, ints)
 
-lowest-neg : (x : ℚ) → lowest (neg_ℚ x) ≡ fraction_neg (lowest x)
+pub lowest-neg : (x : ℚ) → lowest (neg_ℚ x) ≡ fraction_neg (lowest x)
 lowest-neg x =
     ap (λ y. lowest (neg_ℚ y)) (sym (ratio-lowest x)) ∙ ap lowest (ratio-neg (lowest x))
-    ∙ lowest-of_reduced (fraction_neg (lowest x)) (ap (λ n. gcd n (unsigned_abs (lowest x).den)) (neg_size (lowest x).num) ∙ lowest_reduced x)
+    ∙ lowest-of_reduced (fraction_neg (lowest x)) (ap (λ n. gcd n (unsigned_abs (lowest x).den)) (size-neg_ℤ (lowest x).num) ∙ lowest_reduced x)
 
 pub fits-neg : (x : ℚ) → fits (neg_ℚ x) ≡ fits x
 unfolding fits
 fits-neg x = ap (λ (p : Fraction). is_small p.num && is_small p.den) (lowest-neg x) ∙ ap (λ b. b && is_small (lowest x).den) (same_small (lowest x).num)
   where
     same_small : (z : ℤ) → is_small (neg_ℤ z) ≡ is_small z
-    same_small z = ap (λ n. nat_lt n (2 ^ 127)) (neg_size z)
+    same_small z = ap (λ n. nat_lt n (2 ^ 127)) (size-neg_ℤ z)
 
 pub minus_zero : (x : ℚ) → difference_fits x (of_ℤ (pos 0)) ≡ fits x
 minus_zero x = ap (sum_fits x) (sym (of_ℤ-neg_ℤ (pos 0))) ∙ right_zero x

@@ -1,16 +1,17 @@
 -- A test that each kind of token in the list of all passes is passed by each kind.
 use Rattle.std.proofs.Common.{◌≡◌, ℕ, zero, suc, Bool, true, false, ◌||◌, nat_eq, List, [], ◌∷◌, get_or, refl, ap, sym, ◌∙◌, subst, arith}
 use Rattle.std.proofs.lemmas.Bool.Decides.{nat_tests}
+use Rattle.std.proofs.lemmas.Bool.{eqb-true}
 use Rattle.dc_tokens.specs.declared.token.TokenKind.{TokenKind}
 use Rattle.dc_tokens.specs.declared.token.TokenKind.TheVariants as k
 use Rattle.dc_tokens.specs.declared.token.Token.{Token}
+use Rattle.dc_tokens.proofs.Front.{and_left, and_right}
 use Rattle.dc_grammar.specs.Kinds.{number, is, kinds}
 use Rattle.dc_grammar.specs.Grammar.{has}
 use Rattle.dc_grammar.specs.Lookahead.{every}
-use Rattle.dc_grammar.proofs.Tests.{and_left, and_right}
 
 -- the kind with a number
-kind_at : (j : TokenKind) → get_or kinds (number j) k.Name ≡ j
+pub kind_at : (j : TokenKind) → get_or kinds (number j) k.Name ≡ j
 kind_at k.Name = refl
 kind_at k.Number = refl
 kind_at k.Proc = refl
@@ -65,12 +66,9 @@ is_equal n = grind (arith, nat_tests)
 pub same_self : (j : TokenKind) → is j j ≡ true
 same_self j = is_equal (number j)
 
-equal : (a b : ℕ) → nat_eq a b ≡ true → a ≡ b
-equal a b h = grind (arith, nat_tests)
-
 -- kinds with the same number are the same
 pub same_kind : (i j : TokenKind) → is i j ≡ true → i ≡ j
-same_kind i j h = sym (kind_at i) ∙ (ap (λ n. get_or kinds n k.Name) (equal (number i) (number j) h) ∙ kind_at j)
+same_kind i j h = sym (kind_at i) ∙ (ap (λ n. get_or kinds n k.Name) (eqb-true (number i) (number j) h) ∙ kind_at j)
 
 only : (b : Bool) → b || false ≡ true → b ≡ true
 only true h = refl

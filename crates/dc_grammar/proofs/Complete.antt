@@ -1,9 +1,11 @@
 -- A text of a rule is read whole, where what comes next may stand after the rule.
 use Rattle.std.proofs.Common.{◌≡◌, Bool, true, false, not, ◌||◌, ◌&&◌, List, [], ◌∷◌, ◌++◌, refl, sym, subst, append_assoc}
+use Rattle.std.proofs.lemmas.Bool.{or_left}
 use Rattle.dc_grammar.specs.Grammar.{Rule, ref, seq, alt, many, Tree, pair, Derives, token, nothing, name, both, first, second, no_more, one_more, has}
 use Rattle.dc_grammar.specs.Reading.{Reader, nullable, firsts, begins, Out, ok, Parses, one-ok, nil-ok, name-of, seq-ok, left-ok, right-ok, many-end, many-ok}
 use Rattle.dc_grammar.specs.Lookahead.{every, implies, then_, ll1, LooksAhead}
-use Rattle.dc_grammar.proofs.Tests.{and_left, and_right, and_both, or_left, or_right, implies_true, not_both, not_true}
+use Rattle.dc_grammar.proofs.Tests.{and_both, or_right, implies_true, not_both, not_true}
+use Rattle.dc_tokens.proofs.Front.{and_left, and_right}
 
 name_begins : {K N T : Type 0} {R : Reader K N T} → LooksAhead R → (x : N) (j : K) → firsts R (R.grammar.rules x) j ≡ true → firsts R (ref x) j ≡ true
 name_begins {R = R} each x j h = implies_true _ _ (each.all_kinds (λ k. implies (firsts R (R.grammar.rules x) k) (firsts R (ref x) k)) (each.begins_right x) j) h

@@ -1,8 +1,8 @@
 -- What a reader has read means, and it saw no more than the next token.
 use Rattle.std.proofs.Common.{◌≡◌, Bool, true, false, List, [], ◌∷◌, ◌++◌, refl, ap, sym, ◌∙◌, subst, append_assoc}
+use Rattle.std.proofs.lemmas.Bool.{or_left}
 use Rattle.dc_grammar.specs.Grammar.{Rule, one, nil, ref, seq, alt, many, Tree, leaf, none, pair, left, right, Derives, token, nothing, name, both, first, second, no_more, one_more}
 use Rattle.dc_grammar.specs.Reading.{Reader, begins, Out, ok, fail, rest, at, Parses, one-ok, one-bad, one-end, nil-ok, name-of, seq-ok, seq-bad, seq-stops, left-ok, left-bad, right-ok, right-bad, many-end, many-ok, many-bad, many-stops}
-use Rattle.dc_grammar.proofs.Tests.{or_left}
 use Rattle.dc_grammar.specs.Lookahead.{LooksAhead}
 
 -- from `used`, by what was answered: a whole text of the rule, or the front of one

@@ -1,9 +1,10 @@
 -- The scan counts the operators of the expression or condition in which it stands.
 use Rattle.std.proofs.Common.{◌≡◌, ℕ, ◌+◌, ◌<◌, ◌≤◌, ◌⊎◌, inl, inr, Bool, true, false, not, ◌||◌, ◌&&◌, List, [], ◌∷◌, ◌++◌, length, refl, sym, ap, ◌∙◌, subst, arith, append_assoc, append-nil, leb}
 use Rattle.std.specs.Prelude.{fold, if◌then◌else◌}
-use Rattle.std.proofs.lemmas.Bool.Decides.{nat_tests}
+use Rattle.std.proofs.lemmas.Bool.{not-true, leb-true, leb-false}
 use Rattle.dc_tokens.specs.declared.token.TokenKind.{TokenKind}
 use Rattle.dc_tokens.specs.declared.token.Token.{Token}
+use Rattle.dc_tokens.proofs.Front.{and_left, and_right}
 use Rattle.dc_grammar.specs.Grammar.{Rule, one, nil, ref, seq, alt, many, Tree, Derives, Viable, has}
 use Rattle.dc_grammar.specs.Grammar as D
 use Rattle.dc_grammar.specs.Kinds.{is, kinds}
@@ -12,7 +13,7 @@ use Rattle.dc_grammar.specs.Language.{Name, source, names, stmt, assigned, choic
 use Rattle.dc_grammar.specs.Depth.{operators, operands, operators_with, operators_so_far, open_brackets, IsDeep}
 use Rattle.dc_grammar.specs.Nesting.{Nests}
 use Rattle.dc_grammar.specs.Standing.{is_whole, is_layer, Holds, here, within, in_first, in_second, of_first, of_second, in_one, in_more, operators_in, Stands, HasManyOpen, HasManyOperators, CountsOperators}
-use Rattle.dc_grammar.proofs.Tests.{implies_true, and_left, and_right}
+use Rattle.dc_grammar.proofs.Tests.{implies_true}
 use Rattle.dc_grammar.proofs.AllKinds.{all_kinds}
 use Rattle.dc_grammar.proofs.Nesting.{counted, counts_open}
 
@@ -25,7 +26,7 @@ taken j js p t e h = implies_true (has is (j ∷ js) t.kind) (p t.kind) (all_kin
 abbrev run : ℕ → List Token → ℕ
 run n ts = fold operators_with n ts
 
-run-append : (n : ℕ) (us vs : List Token) → run n (us ++ vs) ≡ run (run n us) vs
+pub run-append : (n : ℕ) (us vs : List Token) → run n (us ++ vs) ≡ run (run n us) vs
 run-append n [] vs = refl
 run-append n (t ∷ us) vs = run-append (operators_with n t) us vs
 
@@ -267,10 +268,6 @@ outer_rules unary h g = absurd cc
 outer_rules conj h g = absurd cc
 outer_rules fact h g = absurd cc
 
-no_layer : (b : Bool) → not b ≡ true → b ≡ false
-no_layer true h = absurd cc
-no_layer false h = refl
-
 layer_no : (b : Bool) → b ≡ false → not b ≡ true
 layer_no true h = absurd cc
 layer_no false h = refl
@@ -387,7 +384,7 @@ found u t more (D.token {j = j} {ks = js} {t = s} h) o e p =
 found u t more D.nothing o e p = absurd (nil_append u t more e)
 found u t more (D.name {x = x} {a = a} d) o e p = elim (whole_or_not x) [
   | inl w ↦ stands_here w (subst (λ z. Derives language (ref x) z a) e (D.name d))
-  | inr n ↦ stands_in (λ b c f. within n) (found u t more d (outer_rules x (no_layer (is_layer x) o) n) e p)
+  | inr n ↦ stands_in (λ b c f. within n) (found u t more d (outer_rules x (not-true (is_layer x) o) n) e p)
 ]
 found u t more (D.both {r = r} {s = q} {u = us} {v = vs} d f) o e p = elim (split us vs u t more e) [
   | inl m ↦ stands_first m.2 (found u t m.0 d (and_left (outer r) (outer q) o) m.1 p) f
@@ -414,18 +411,12 @@ grown n m true b l g e = refl
 grown n m false true l g e = absurd (omega arith)
 grown n m false false l g e = absurd (omega arith)
 
-above : (n : ℕ) → leb n 64 ≡ false → 64 < n
-above n e = grind (arith, nat_tests)
-
-at_most : (n : ℕ) → leb n 64 ≡ true → n ≤ 64
-at_most n e = grind (arith, nat_tests)
-
 few : (u : List Token) → (IsDeep u → ⊥) → operators_so_far u ≤ 64
 few u h = go (leb (operators_so_far u) 64) refl
   where
     go : (b : Bool) → leb (operators_so_far u) 64 ≡ b → operators_so_far u ≤ 64
-    go true e = at_most (operators_so_far u) e
-    go false e = absurd (h (inr (above (operators_so_far u) e)))
+    go true e = leb-true (operators_so_far u) 64 e
+    go false e = absurd (h (inr (leb-false (operators_so_far u) 64 e)))
 
 operated : (u : List Token) (t : Token) → operators_so_far u ≤ 64 → 64 < operators_so_far (u ++ t ∷ []) → has is operators t.kind ≡ true
 unfolding operators_so_far

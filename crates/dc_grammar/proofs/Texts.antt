@@ -1,10 +1,10 @@
 -- Some text of a rule, over the kinds of the language's tokens.
 use Rattle.std.proofs.Common.{List, [], ◌∷◌, ◌++◌}
+use Rattle.std.proofs.lemmas.Bool.{or_left}
 use Rattle.dc_tokens.specs.declared.token.TokenKind.{TokenKind}
 use Rattle.dc_tokens.specs.declared.token.Token.{Token}
 use Rattle.dc_grammar.specs.Kinds.{is}
 use Rattle.dc_grammar.specs.Grammar.{Rule, one, nil, ref, seq, alt, many, Grammar, Tree, leaf, none, pair, left, right, Derives, token, nothing, name, both, first, second, no_more}
-use Rattle.dc_grammar.proofs.Tests.{or_left}
 use Rattle.dc_grammar.proofs.AllKinds.{same_self}
 
 -- the grammar of these rules over the language's tokens

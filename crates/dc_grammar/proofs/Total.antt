@@ -1,11 +1,11 @@
 -- The reader answers at every list of tokens.
-use Rattle.std.proofs.Common.{◌≡◌, ℕ, zero, suc, ◌<◌, ◌≤◌, ◌⊎◌, inl, inr, Bool, true, false, not, ◌||◌, ◌&&◌, nat_lt, List, [], ◌∷◌, length, refl, arith}
-use Rattle.std.proofs.lemmas.Bool.Decides.{nat_tests}
+use Rattle.std.proofs.Common.{◌≡◌, ℕ, zero, suc, ◌<◌, ◌≤◌, ◌⊎◌, inl, inr, Bool, true, false, not, ◌||◌, ◌&&◌, List, [], ◌∷◌, length, refl, arith}
+use Rattle.std.proofs.lemmas.Bool.{not-true, ltb-true}
 use Rattle.dc_grammar.specs.Grammar.{Rule, one, nil, ref, seq, alt, many, Tree, leaf, none, pair, left, right, has}
 use Rattle.dc_grammar.specs.Reading.{Reader, nullable, begins, Out, ok, fail, Parses, one-ok, one-bad, one-end, nil-ok, name-of, seq-ok, seq-bad, seq-stops, left-ok, left-bad, right-ok, right-bad, many-end, many-ok, many-bad, many-stops}
 use Rattle.dc_grammar.specs.Lookahead.{then_, ll1, below, LooksAhead}
-use Rattle.dc_grammar.proofs.Tests.{and_left, and_right}
 use Rattle.dc_grammar.proofs.Alone.{no_longer, consumes}
+use Rattle.dc_tokens.proofs.Front.{and_left, and_right}
 
 -- ---- rules whose loops take a token each time
 
@@ -17,10 +17,6 @@ Moves R (seq r s) = Moves R r × Moves R s
 Moves R (alt r s) = Moves R r × Moves R s
 Moves R (many r) = (nullable R r ≡ false) × Moves R r
 
-not_so : (b : Bool) → not b ≡ true → b ≡ false
-not_so true h = absurd cc
-not_so false h = refl
-
 pub moves : {K N T : Type 0} (R : Reader K N T) (ks : List K) (r : Rule K N) (f : K → Bool) → ll1 R ks r f ≡ true → Moves R r
 unfolding ll1
 moves R ks (one j js) f l = tt
@@ -31,7 +27,7 @@ moves R ks (alt r s) f l =
     let l2 : ll1 R ks r f && ll1 R ks s f ≡ true = and_right _ _ (and_right (not (nullable R r)) _ l) in
     (moves R ks r f (and_left _ _ l2), moves R ks s f (and_right (ll1 R ks r f) _ l2))
 moves R ks (many r) f l =
-    (not_so (nullable R r) (and_left _ _ l), moves R ks r _ (and_right _ _ (and_right (not (nullable R r)) _ l)))
+    (not-true (nullable R r) (and_left _ _ l), moves R ks r _ (and_right _ _ (and_right (not (nullable R r)) _ l)))
 
 -- ---- the names that a rule may take before it has taken a token are all so
 
@@ -43,9 +39,6 @@ Lefts R Ok (seq r s) = Lefts R Ok r × (nullable R r ≡ true → Lefts R Ok s)
 Lefts R Ok (alt r s) = Lefts R Ok r × Lefts R Ok s
 Lefts R Ok (many r) = Lefts R Ok r
 
-lt_true : (a b : ℕ) → nat_lt a b ≡ true → a < b
-lt_true a b h = grind (arith, nat_tests)
-
 or_second : (a b : Bool) → not a || b ≡ true → a ≡ true → b ≡ true
 or_second true b h e = h
 or_second false b h e = absurd cc
@@ -54,7 +47,7 @@ lefts_below : {K N T : Type 0} (R : Reader K N T) (rank : N → ℕ) (k : ℕ) (
 unfolding below
 lefts_below R rank k (one j ks) h = tt
 lefts_below R rank k nil h = tt
-lefts_below R rank k (ref x) h = lt_true (rank x) k h
+lefts_below R rank k (ref x) h = ltb-true (rank x) k h
 lefts_below R rank k (seq r s) h =
     (lefts_below R rank k r (and_left _ _ h), λ e. lefts_below R rank k s (or_second (nullable R r) (below R rank k s) (and_right (below R rank k r) _ h) e))
 lefts_below R rank k (alt r s) h = (lefts_below R rank k r (and_left _ _ h), lefts_below R rank k s (and_right (below R rank k r) _ h))

@@ -1,9 +1,10 @@
 -- A walk through a graph that holds a list's edges, and no others from their numbers, begins with a run of the list.
-use Rattle.std.specs.Prelude.{◌≡◌, ℕ, zero, suc, ◌+◌, ◌≤◌, ◌<◌, List, [], ◌∷◌, ◌++◌, Bool, true, false, not, ◌||◌, ℤ, pos, ◌+ℤ◌, refl}
+use Rattle.std.specs.Prelude.{◌≡◌, ℕ, zero, suc, ◌+◌, ◌≤◌, ◌<◌, List, [], ◌∷◌, ◌++◌, Bool, true, false, ◌||◌, ℤ, pos, ◌+ℤ◌, refl}
 use Rattle.std.specs.List.{AllByRecursion}
 use Rattle.std.proofs.Common.{sym, ◌∙◌, ap, subst, arith, inl, inr}
 use Rattle.std.proofs.lemmas.Int.{ints}
 use Rattle.std.proofs.Math.IntN.{+ℤ_idl}
+use Rattle.std.proofs.lemmas.Bool.{not-true}
 use Rattle.dc_math.specs.Members.{Among, head, tail, among-one, among-two, among-++}
 use Rattle.dc_syntax.specs.declared.tree.Stmt.{Stmt, Stmt-F, out-Stmt, fold-roll-Stmt}
 use Rattle.dc_syntax.specs.declared.tree.Stmt.TheOpen.{Skip, Assign, AnyOf, Between, Tick, Assume, If, IfAny, While, WhileAny}
@@ -212,11 +213,7 @@ truth_of : (b : Cond) (s : State) → some_of (facts_of b false) s ≡ true → 
 truth_of b s h = sym (facts_tell b false s) ∙ h
 
 untruth_of : (b : Cond) (s : State) → some_of (facts_of b true) s ≡ true → truth b s ≡ false
-untruth_of b s h = flip (truth b s) (sym (facts_tell b true s) ∙ h)
-  where
-    flip : (v : Bool) → not v ≡ true → v ≡ false
-    flip true h = cc
-    flip false h = refl
+untruth_of b s h = not-true (truth b s) (sym (facts_tell b true s) ∙ h)
 
 assume_one : {f : List Fact} {s m : State} {c : ℤ} (b : Cond) → ((s : State) → all_of f s ≡ true → some_of (facts_of b false) s ≡ true) → Acts (tests f) s c m → One (Assume b) s c m
 assume_one b g (tested {s = s} f h) = assume b (truth_of b s (g s h))

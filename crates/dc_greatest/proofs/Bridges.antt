@@ -1,11 +1,12 @@
 -- Numbers and atoms: rows differ and bounds rise, so a row's bound by its numbers is one atom, and the least bounds tell what a family has.
 use Rattle.std.specs.Prelude.{◌≡◌, ◌↔◌, ℕ, zero, suc, ◌+◌, ◌<◌, ◌≤◌, Bool, true, false, cond, not, is_some, List, [], ◌∷◌, map, filter, find, length, replicate, slice_index_or, ℤ, pos, ◌≤ℤ◌, ◌<ℤ◌, Option, Some, None}
-use Rattle.std.specs.List.{AllByRecursion, range_with_len, list_all}
+use Rattle.std.specs.List.{range_with_len, list_all}
 use Rattle.std.specs.Ordering.{int_eq}
 use Rattle.std.specs.Option.{option_map}
 use Rattle.std.proofs.Common.{refl, sym, ◌∙◌, ap, ap₂, subst, inl, inr, arith}
 use Rattle.std.proofs.lemmas.Bool.{cases_lt}
 use Rattle.std.proofs.lemmas.Int.{ints}
+use Rattle.std.specs.Cmp.{both_ways}
 use Rattle.dc_math.specs.Members.{Among, head, each_at, among_at, at_among}
 use Rattle.dc_affine.specs.declared.atom.Atom.{Atom}
 use Rattle.dc_rows.specs.declared.kinds.Candidates.{Candidates}
@@ -15,7 +16,7 @@ use Rattle.dc_families.specs.Families.{Family, never, bounded, candidate_atoms, 
 use Rattle.dc_families.specs.Graphs.{Graph}
 use Rattle.dc_families.specs.Rounds.{IsWithin, HasCandidates}
 use Rattle.dc_families.specs.Laws.{IsUpward}
-use Rattle.dc_families.proofs.Lists.{differ, same_lists, same_test}
+use Rattle.dc_families.proofs.Lists.{differ, same_lists}
 use Rattle.dc_families.proofs.Tests.{bounded_candidate, in_everything}
 use Rattle.dc_greatest.specs.declared.family.LocFamily.{LocFamily}
 use Rattle.dc_greatest.specs.Kept.{stands_for, least_rows, list_in, IsFrom, IsBelow, IsShaped}
@@ -212,7 +213,7 @@ module _ (n locs : ℕ) (c : Candidates) (fs gs : List LocFamily) (kind : AreCan
       let u = never_there n c kind fs l x in
       let v = never_there n c kind gs l y in
       ap₂ (λ (d : Bool) (os : List (Option ℕ)). record { dead = d; least = os })
-      (same_test _ _ (λ t. v.0 (h l (never n) (u.1 t))) (λ t. u.0 (k l (never n) (v.1 t))))
+      (both_ways _ _ (λ t. v.0 (h l (never n) (u.1 t))) (λ t. u.0 (k l (never n) (v.1 t))))
       (same_lists None _ _ (a.rows l nowhere i ∙ sym (b.rows l nowhere i)) (λ r m.
       let q : r < length c.rows = let e = a.rows l nowhere i in omega arith in
       same_option (length c.bounds) _ _ (a.bounds l r nowhere i q) (b.bounds l r nowhere i q) (λ m j.

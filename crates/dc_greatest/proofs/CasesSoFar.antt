@@ -9,6 +9,7 @@ use Rattle.dc_affine.specs.declared.atom.Atom.{Atom}
 use Rattle.dc_simplex.specs.Limits.{Answer, Past, Out}
 use Rattle.dc_points.specs.Points.{Entails}
 use Rattle.dc_points.specs.Shown.{AreFlags}
+use Rattle.dc_points.proofs.Flags.{flags_many}
 use Rattle.dc_entail.specs.Asked.{Asked, AllDone, Refuses}
 use Rattle.dc_entail.specs.declared.answer.Site.{Site}
 use Rattle.dc_entail.proofs.Refusals.{refusals_join}
@@ -30,16 +31,10 @@ use Rattle.dc_greatest.proofs.Setting.{shaped_set, set_here, set_other}
 use Rattle.dc_greatest.proofs.Unchanged.{both_done}
 
 -- ---- lists that are cut at an index
-take_next : {A : Type 0} (xs : List A) (k : ℕ) (d : A) → k < length xs → take (suc k) xs ≡ take k xs ++ slice_index_or xs k d ∷ []
+pub take_next : {A : Type 0} (xs : List A) (k : ℕ) (d : A) → k < length xs → take (suc k) xs ≡ take k xs ++ slice_index_or xs k d ∷ []
 take_next [] k d l = absurd (omega arith)
 take_next (x ∷ xs) zero d l = refl
 take_next (x ∷ xs) (suc k) d l = ap (λ ys. x ∷ ys) (take_next xs k d (omega arith))
-
-pub long_flags : (live : List Bool) (cases : List (List Atom)) → AreFlags live cases → length live ≡ length cases
-long_flags [] [] h = refl
-long_flags [] (c ∷ cases) h = absurd h
-long_flags (b ∷ live) [] h = absurd h
-long_flags (b ∷ live) (c ∷ cases) h = ap suc (long_flags live cases h.1)
 
 module _ (f : ℕ → List Atom → List Asked) where
   abbrev one_case : ℕ → List Atom → Bool → List Asked
@@ -84,7 +79,7 @@ module _ (side : Side) (s : Graph) (cases : List (List Atom)) (live : List Bool)
   asked_at k = if slice_index_or live k false then asks k (case_at k) else []
 
   long : length live ≡ length cases
-  long = long_flags live cases flags
+  long = flags_many live cases flags
 
   -- ---- at first
   pub cases_start : (fs : List LocFamily) → IsShaped s.locs c fs → J ≡ stands_for s.vars c fs → AreCasesTaken side s cases live c J budget 0 fs

@@ -7,6 +7,7 @@ use Rattle.dc_affine.specs.declared.atom.Atom.{Atom}
 use Rattle.dc_system.specs.declared.edges.Edge.{Edge}
 use Rattle.dc_points.specs.Points.{Point, MeetsAt, MeetsAll, Entails, IsDead}
 use Rattle.dc_points.specs.Shown.{IsFlag}
+use Rattle.dc_points.proofs.Flags.{live_flag}
 use Rattle.dc_simplex.specs.Limits.{Answer}
 use Rattle.dc_entail.specs.Asked.{Asked, IsDone, AllDone, Refuses}
 use Rattle.dc_entail.specs.declared.answer.Site.{Site}
@@ -19,6 +20,7 @@ use Rattle.dc_families.specs.Rounds.{MeetsFamily, EdgeGives, HasCandidates}
 use Rattle.dc_families.proofs.Lists.{differ}
 use Rattle.dc_families.proofs.False.{left_image, image}
 use Rattle.dc_families.proofs.Upward.{never_met, lists_are_families}
+use Rattle.dc_families.proofs.Decisions.{has_flag}
 use Rattle.dc_greatest.specs.declared.family.LocFamily.{LocFamily}
 use Rattle.dc_greatest.specs.Kept.{IsFit}
 use Rattle.dc_greatest.specs.declared.family.InvFault.{InvFault}
@@ -26,7 +28,6 @@ use Rattle.dc_greatest.specs.Answers.{IsFault}
 use Rattle.dc_greatest.specs.Parts.{edge_atoms, affine_rows, edge_row, edge_empty, edge_asked}
 use Rattle.dc_greatest.specs.Bounds.{IsTaken}
 use Rattle.dc_greatest.specs.Searches.{EdgeAsks, IsEdgeTaken}
-use Rattle.dc_greatest.proofs.Ends.{has_flag}
 use Rattle.dc_greatest.proofs.Faults.{fault_from}
 
 module _ (side : Side) (s : Graph) (cases : List (List Atom)) (live : List Bool) (c : Candidates) (J : Family) (budget k : ℕ) (e : Edge) (kind : AreCandidates s.vars c) (h : HasCandidates s c J) where
@@ -59,9 +60,6 @@ module _ (side : Side) (s : Graph) (cases : List (List Atom)) (live : List Bool)
 
   dead_flag : (hs : List Atom) → IsDead hs → IsFlag false hs
   dead_flag hs d = ((λ t. differ (sym t)), (λ n. absurd (n d)))
-
-  live_flag : (hs : List Atom) → ¬ IsDead hs → IsFlag true hs
-  live_flag hs n = ((λ t. n), (λ m. refl))
 
   pub taken_nothing : (old : LocFamily) → IsFit c old → IsDead (edge_atoms s c J e) → AllDone budget (edge_asked side s c J k e false) → IsEdgeTaken side s cases live c J budget k e old old
   taken_nothing old fit d n = record {

@@ -34,13 +34,6 @@ flags_same (b ∷ bs) ds [] f g = absurd f
 flags_same (b ∷ bs) [] (h ∷ hs) f g = absurd g
 flags_same (b ∷ bs) (d ∷ ds) (h ∷ hs) f g = ap₂ ◌∷◌ (flag_same b d h f.0 g.0) (flags_same bs ds hs f.1 g.1)
 
-pub has_flag : (h : List Atom) → (b : Bool) × IsFlag b h
-has_flag h = by (decide_dead h)
-  where
-    by : IsDead h ⊎ (¬ IsDead h) → (b : Bool) × IsFlag b h
-    by (inl e) = (false, ((λ t. differ (sym t)), (λ n. absurd (n e))))
-    by (inr e) = (true, ((λ t. e), (λ n. refl)))
-
 pub has_flags : (hs : List (List Atom)) → (bs : List Bool) × AreFlags bs hs
 has_flags [] = ([], tt)
 has_flags (h ∷ hs) = let r = has_flags hs in by (decide_dead h) r.0 r.1

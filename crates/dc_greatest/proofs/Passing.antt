@@ -3,12 +3,14 @@ use Rattle.std.specs.Prelude.{◌≡◌, ◌⊎◌, ℕ, zero, suc, ◌+◌, ◌
 use Rattle.std.specs.List.{AllByRecursion}
 use Rattle.std.proofs.Common.{refl, sym, ◌∙◌, ap, ap₂, subst, inl, inr, arith}
 use Rattle.std.proofs.lemmas.Int.{ints}
-use Rattle.dc_math.specs.Members.{Among, head, tail, each_among, among_each, mapped_among, at_among}
+use Rattle.std.proofs.lemmas.List.{length-replicate}
+use Rattle.dc_math.specs.Members.{Among, each_among, among_each, mapped_among, at_among}
 use Rattle.dc_math.specs.Rational.{of_ℤ}
 use Rattle.dc_syntax.specs.declared.tree.Side.{Side}
 use Rattle.dc_poly.specs.Sums.{zeros}
 use Rattle.dc_affine.specs.declared.atom.Atom.{Atom}
-use Rattle.dc_affine.specs.Atoms.{AllFit, AllCases, IsAtom, IsFullAtom}
+use Rattle.dc_affine.specs.Atoms.{AllCases, IsAtom, IsFullAtom}
+use Rattle.dc_affine.proofs.Within.{take_fits, zeros_fit}
 use Rattle.dc_system.specs.declared.edges.Edge.{Edge}
 use Rattle.dc_system.specs.declared.rows.RowAfter.{RowAfter}
 use Rattle.dc_system.specs.After.{is_affine_after, row_after_of}
@@ -48,13 +50,6 @@ use Rattle.dc_greatest.proofs.Rows.{least_same, nothing_least}
 use Rattle.dc_greatest.proofs.Sames.{any_default}
 
 -- ---- the atoms of a location are within their sizes
-zeros_fit : (n : ℕ) → AllFit (replicate n (pos 0))
-zeros_fit zero = tt
-zeros_fit (suc n) = (omega arith, zeros_fit n)
-
-long-zeros : (n : ℕ) → length (replicate n (pos 0)) ≡ n
-long-zeros zero = refl
-long-zeros (suc n) = ap suc (long-zeros n)
 
 pub atoms_kind : (n : ℕ) (c : Candidates) (J : Family) (l : ℕ) → AreCandidates n c → AllByRecursion (IsAtom n) (atoms_at n c J l)
 atoms_kind n c J l kind = by (J l (never n))
@@ -71,7 +66,7 @@ atoms_kind n c J l kind = by (J l (never n))
         }
 
     by : (b : Bool) → AllByRecursion (IsAtom n) (cond b (never n ∷ []) (map (least_atom c J l) (kept_rows c J l)))
-    by true = (record { few = (let q = long-zeros n in omega arith); coefs_within = zeros_fit n; constant_within = omega (arith, ints) }, tt)
+    by true = (record { few = (let q = length-replicate n (pos 0) in omega arith); coefs_within = zeros_fit n; constant_within = omega (arith, ints) }, tt)
     by false = among_each (IsAtom n) _ (λ a m. let f = mapped_among (least_atom c J l) (kept_rows c J l) m in subst (IsAtom n) (sym f.is) (one f.of f.among))
 
 -- ---- along an edge
@@ -163,11 +158,6 @@ take_long : {A : Type 0} (k : ℕ) (xs : List A) → k ≤ length xs → length 
 take_long zero xs h = refl
 take_long (suc k) [] h = absurd (omega arith)
 take_long (suc k) (x ∷ xs) h = ap suc (take_long k xs (omega arith))
-
-take_fits : (k : ℕ) (xs : List ℤ) → AllFit xs → AllFit (take k xs)
-take_fits zero xs h = tt
-take_fits (suc k) [] h = tt
-take_fits (suc k) (x ∷ xs) h = (h.0, take_fits k xs h.1)
 
 module _ (s : Graph) (c : Candidates) (kind : AreCandidates s.vars c) (params : s.params ≤ s.vars) (r : ℕ) (inside : r < length c.rows) where
   entry : IsRow s.vars (row_at c r)

@@ -2,6 +2,7 @@
 -- that of the family at hand.
 use Rattle.std.specs.Prelude.{◌≡◌, ℕ, zero, suc, ◌+◌, ◌<◌, Bool, true, false, List, [], ◌∷◌, ◌++◌, map, length, slice_index_or}
 use Rattle.std.proofs.Common.{refl, sym, ◌∙◌, ap, subst, inl, inr, arith, append_assoc, append-nil}
+use Rattle.std.specs.Cmp.{both_ways}
 use mathlib.Core.Path.{fun_ext}
 use Rattle.dc_math.specs.Members.{Among, at_among}
 use Rattle.dc_syntax.specs.declared.tree.Side.{Side}
@@ -17,7 +18,7 @@ use Rattle.dc_rows.specs.Candidate.{AreCandidates}
 use Rattle.dc_families.specs.Graphs.{Graph}
 use Rattle.dc_families.specs.Families.{Family, everything, atoms_at, candidate_atoms}
 use Rattle.dc_families.specs.Rounds.{IsRound, IsWithin, IsGreatest}
-use Rattle.dc_families.proofs.Lists.{differ, same_test}
+use Rattle.dc_families.proofs.Lists.{differ}
 use Rattle.dc_families.proofs.Greatest.{round_within, IsAbove, above_round, above_stable}
 use Rattle.dc_families.proofs.Weights.{weight, all_or_fewer}
 use Rattle.dc_greatest.specs.declared.family.LocFamily.{LocFamily}
@@ -122,7 +123,7 @@ module _ (side : Side) (s : Graph) (cases : List (List Atom)) (live : List Bool)
     entry_done = let f = r.through.1 in (done_parts budget (for_live (entry_rows side s c (family fs)) 0 cases live) _ (subst (AllDone budget) f.2 r.through.2)).0
 
     same_list : (e : Edge) → slice_index_or gs e.from nowhere ≡ slice_index_or fs e.from nowhere → edge_atoms s c (family gs) e ≡ edge_atoms s c (family fs) e
-    same_list e q = ap (λ (f : Atom → Bool). atoms_at s.vars c (λ l. f) e.from ++ e.guard) (fun_ext (λ a. same_test _ _ (within e.from a) (same_at e.from q a)))
+    same_list e q = ap (λ (f : Atom → Bool). atoms_at s.vars c (λ l. f) e.from ++ e.guard) (fun_ext (λ a. both_ways _ _ (within e.from a) (same_at e.from q a)))
 
     settled_edge : (k : ℕ) (e : Edge) → k < length s.edges → slice_index_or s.edges k e ≡ e → slice_index_or gs e.from nowhere ≡ slice_index_or fs e.from nowhere → IsSettledEdge side s cases live c (family gs) budget k e
     settled_edge k e l i q = record {

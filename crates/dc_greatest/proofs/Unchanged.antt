@@ -1,8 +1,9 @@
 -- An edge whose source a round has not changed: it gives what is left at its target, and asks nothing new.
 use Rattle.std.specs.Prelude.{◌≡◌, ℕ, Bool, true, false, cond, if◌then◌else◌, List, [], ◌∷◌, ◌++◌, map, filter}
 use Rattle.std.proofs.Common.{refl, sym, subst}
+use Rattle.std.specs.Cmp.{both_ways}
 use mathlib.Core.Path.{fun_ext}
-use Rattle.dc_math.specs.Members.{Among, head, tail, among_map, mapped_among}
+use Rattle.dc_math.specs.Members.{Among, head, tail, among_map, mapped_among, among_filter}
 use Rattle.dc_syntax.specs.declared.tree.Side.{Side}
 use Rattle.dc_affine.specs.declared.atom.Atom.{Atom}
 use Rattle.dc_system.specs.declared.edges.Edge.{Edge}
@@ -13,10 +14,10 @@ use Rattle.dc_families.specs.Graphs.{Graph}
 use Rattle.dc_families.specs.Families.{Family, never, bounded, kept_rows}
 use Rattle.dc_system.specs.After.{is_affine_after}
 use Rattle.dc_families.specs.Rounds.{EdgeGives, IsRound, IsWithin}
-use Rattle.dc_system.proofs.Filters.{kept_in, in_kept}
+use Rattle.dc_system.proofs.Filters.{in_kept}
 use Rattle.dc_families.proofs.Greatest.{round_within}
 use Rattle.dc_families.proofs.Upward.{kept_is, kept_there}
-use Rattle.dc_families.proofs.Lists.{find_is, same_test}
+use Rattle.dc_families.proofs.Lists.{find_is}
 use Rattle.dc_greatest.specs.Parts.{entry_row, entry_rows, edge_row, edge_empty}
 use Rattle.dc_greatest.specs.Laws.{UnchangedGive, UnchangedAsk, EntriesAskOnce}
 
@@ -49,7 +50,7 @@ module _ (s : Graph) (cases : List (List Atom)) (J K : Family) (r : IsRound s ca
   gives a m t p f h = ((r e.to a).0 t).1.edges e m refl p (record { each = λ b j. f.each b (same b j) }) h
 
   same_source : J e.from ≡ K e.from
-  same_source = fun_ext (λ a. same_test (J e.from a) (K e.from a) (same a) (round_within s cases J K r e.from a))
+  same_source = fun_ext (λ a. both_ways (J e.from a) (K e.from a) (same a) (round_within s cases J K r e.from a))
 
 pub unchanged_give : UnchangedGive
 unchanged_give s cases J K e a r same m t = gives s cases J K r e same a m t
@@ -73,7 +74,7 @@ fewer_asked side s c f budget k e live xs ys h d = by (f (never s.vars)) live d
     fewer q m =
         let g = mapped_among row (filter p xs) m in
         let i = in_kept p g.of xs g.among in
-        subst (λ x. Among x (map row (filter p ys))) (sym g.is) (among_map row (kept_in p g.of ys i.passes (h g.of i.among)))
+        subst (λ x. Among x (map row (filter p ys))) (sym g.is) (among_map row (among_filter p g.of ys i.passes (h g.of i.among)))
 
     by : (b live : Bool) → AllDone budget (cond b [] (edge_empty side s c (λ l. f) k e ∷ cond live (map row (filter p ys)) [])) → AllDone budget (cond b [] (edge_empty side s c (λ l. f) k e ∷ cond live (map row (filter p xs)) []))
     by true live d = tt

@@ -6,7 +6,7 @@ use Rattle.std.proofs.Math.Nat.{pow-zero, pow-succ'}
 use Rattle.std.proofs.lemmas.Int.{ints}
 use Rattle.std.proofs.lemmas.List.Elements.{All-from_recursion}
 use Rattle.dc_math.specs.Members.{each-map_weaker}
-use Rattle.dc_math.specs.Integers.{0≤ℤ-*ℤ}
+use Rattle.dc_math.specs.Integers.{0≤ℤ-*ℤ, one-*ℤ, *ℤ-one}
 use Rattle.dc_math.specs.WholeRing.{ring, reads, read_nat, same_form}
 use Rattle.dc_math.specs.WholeVectors.{dot_ℤ, dot_ℤ-nil}
 use Rattle.dc_poly.specs.Terms.{Polynomial, IsPolynomial, degree_of, weight, value, front, others}
@@ -64,10 +64,7 @@ value_factor n (suc i) (a ∷ hyps) xs h = value_factor n i hyps xs h.1
 
 value_choice : (n : ℕ) (hyps : List Atom) (p : Polynomial) (c : Choice) (xs : List ℤ) → AllByRecursion (IsAtom n) hyps
     → value (times_choice (map (form_of n) hyps) p c).terms xs ≡ value p.terms xs *ℤ choice_value hyps c xs
-value_choice n hyps p [] xs h = by_one (value p.terms xs)
-  where
-    by_one : (y : ℤ) → y ≡ y *ℤ pos 1
-    by_one y = ring (y ∷ []) (λ ρ i. simp (i, read_nat ρ, reads) (same_form _ _ _ refl))
+value_choice n hyps p [] xs h = sym (*ℤ-one (value p.terms xs))
 value_choice n hyps p (i ∷ c) xs h =
     value_choice n hyps (product_of p (factor_at (map (form_of n) hyps) i)) c xs h
     ∙ ap (λ y. y *ℤ choice_value hyps c xs) (value-times p.terms (factor_at (map (form_of n) hyps) i).terms xs ∙ ap (λ y. value p.terms xs *ℤ y) (value_factor n i hyps xs h))
@@ -77,10 +74,7 @@ value_choice n hyps p (i ∷ c) xs h =
     turn x y z = ring (x ∷ y ∷ z ∷ []) (λ ρ i j k. simp (i, j, k, reads) (same_form _ _ _ refl))
 
 pub have_values : HaveValues
-have_values n hyps c xs h = value_choice n hyps (constant (pos 1) n) c xs h ∙ ap (λ y. y *ℤ choice_value hyps c xs) (value-constant (pos 1) n xs) ∙ one_by (choice_value hyps c xs)
-  where
-    one_by : (y : ℤ) → pos 1 *ℤ y ≡ y
-    one_by y = ring (y ∷ []) (λ ρ i. simp (i, read_nat ρ, reads) (same_form _ _ _ refl))
+have_values n hyps c xs h = value_choice n hyps (constant (pos 1) n) c xs h ∙ ap (λ y. y *ℤ choice_value hyps c xs) (value-constant (pos 1) n xs) ∙ one-*ℤ (choice_value hyps c xs)
 
 choice_above : (hyps : List Atom) (c : Choice) (xs : List ℤ) → FactorsHold hyps c xs → pos 0 ≤ℤ choice_value hyps c xs
 choice_above hyps [] xs h = omega (arith, ints)

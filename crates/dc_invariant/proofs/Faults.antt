@@ -1,5 +1,5 @@
 -- The first refusal of lists of problems that are joined.
-use Rattle.std.specs.Prelude.{ℕ, List, [], ◌∷◌, ◌++◌, Result, Ok, Err, IfOk, IfErr}
+use Rattle.std.specs.Prelude.{ℕ, List, ◌++◌, Result, Ok, Err, IfOk, IfErr}
 use Rattle.std.proofs.Common.{inl, inr}
 use Rattle.dc_simplex.specs.Limits.{Past, Out}
 use Rattle.dc_entail.specs.Asked.{Asked, AllDone}
@@ -35,9 +35,6 @@ fault_before budget before P Q d h (Budget site) (asked, p, r) =
 fault_before budget before P Q d h NoMemory r = tt
 
 -- ---- lists that are done
-pub done_both : (budget : ℕ) (ps qs : List Asked) → AllDone budget ps → AllDone budget qs → AllDone budget (ps ++ qs)
-done_both budget [] qs d e = e
-done_both budget (p ∷ ps) qs d e = (d.0, done_both budget ps qs d.1 e)
 
 -- ---- answers and refusals in other words
 pub if_ok : {A E : Type 0} (P Q : A → Type 0) → ((x : A) → P x → Q x) → (r : Result A E) → IfOk r P → IfOk r Q

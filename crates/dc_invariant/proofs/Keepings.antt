@@ -4,10 +4,11 @@ use Rattle.std.specs.List.{AllByRecursion}
 use Rattle.std.proofs.Common.{refl, sym, ◌∙◌, ap, ap₂, subst, arith, append_assoc, append-nil}
 use Rattle.std.proofs.lemmas.List.{take_all, length-take-le, get_or-take, get_or_default}
 use Rattle.std.proofs.lemmas.List.Sums.{sum_by-take-le}
-use Rattle.dc_math.specs.Members.{Among, head, tail, each_at_or, each_among, at_among}
+use Rattle.dc_math.specs.Members.{Among, each_at_or, each_among, at_among}
 use Rattle.dc_math.specs.Rational.{of_ℤ}
 use Rattle.dc_affine.specs.declared.atom.Atom.{Atom}
-use Rattle.dc_affine.specs.Atoms.{AllFit, IsAtom, IsFullAtom, AllCases}
+use Rattle.dc_affine.specs.Atoms.{AllFit, IsAtom, IsFullAtom}
+use Rattle.dc_affine.proofs.Within.{full_within}
 use Rattle.dc_program.specs.Programs.{IsCondition}
 use Rattle.dc_lp.specs.Problems.{whole_at}
 use Rattle.dc_system.specs.declared.edges.Edge.{Edge}
@@ -27,6 +28,7 @@ use Rattle.dc_points.specs.Points.{MeetsAt, MeetsAll, IsDead, Entails, EntailsFr
 use Rattle.dc_points.specs.Stated.{coefficient_of, empty_problem, sup_problem}
 use Rattle.dc_points.specs.Shown.{IsFlag, AreFlags, CombinesTo}
 use Rattle.dc_points.proofs.Whole.{atoms_are_forms}
+use Rattle.dc_points.proofs.Flags.{flags_many}
 use Rattle.dc_families.specs.Graphs.{graph_of}
 use Rattle.dc_families.specs.Families.{family_of}
 use Rattle.dc_families.specs.Moves.{at_start, edge_places, form_after}
@@ -39,23 +41,16 @@ use Rattle.dc_greatest.specs.declared.family.InvFault.{InvFault}
 use Rattle.dc_greatest.specs.Answers.{IsFault}
 use Rattle.dc_greatest.specs.Parts.{for_live, for_edges}
 use Rattle.dc_greatest.proofs.Ends.{has_flags}
+use Rattle.dc_greatest.proofs.Unchanged.{both_done}
 use Rattle.dc_invariant.specs.declared.keeping.Keeping.{Keeping}
 use Rattle.dc_invariant.specs.Shown.{IsSolutionOf, IsRefutationOf, AreKeeps, IsLine}
 use Rattle.dc_invariant.specs.Keeps as side
-use Rattle.dc_invariant.specs.Keeps.{printed_at, kept_atoms, exit_atoms, AreLive, numbered, atom_at_entry, entry_asked, atom_along, edge_dead, edge_asked, exit_asked, keeps_asked, KeepsAsk}
+use Rattle.dc_invariant.specs.Keeps.{printed_at, kept_atoms, exit_atoms, numbered, atom_at_entry, entry_asked, atom_along, edge_dead, edge_asked, exit_asked, KeepsAsk}
 use Rattle.dc_invariant.specs.Answers.{TellsKeeps}
 use Rattle.dc_invariant.specs.Lent.{Only, IsLeastKeep, HasBound, IsKeeping, graph, IsEntryKeep, case_asked, IsCasePart, EntryAsks, AreEntryKeeps, IsKeepAlong, AlongAsks, AreKeepsAlong, EdgeAsks, IsEdgePart, EdgesAsk, AreEdgeParts}
-use Rattle.dc_invariant.proofs.Faults.{fault_part, fault_before, done_both}
+use Rattle.dc_invariant.proofs.Faults.{fault_part, fault_before}
 use Rattle.dc_invariant.proofs.Tells.{full_atoms, shown_keep, keep_done, line_done_dead, line_done_live}
-use Rattle.dc_invariant.proofs.Kept.{AreKeptFirst, kept_start, kept_next, kept_fault, kept_keeps, kept_done, flags_many, flag_at, flags_join, edges_join, next_at, cut_at, one_live, live_cut, live_next}
-
-within_atoms : (n : ℕ) (atoms : List Atom) → AllByRecursion (IsFullAtom n) atoms → AllByRecursion (IsAtom n) atoms
-within_atoms n atoms h = full_atoms n n atoms refl h
-
-fit-front : (k : ℕ) (cs : List ℤ) → AllFit cs → AllFit (take k cs)
-fit-front zero cs h = tt
-fit-front (suc k) [] h = tt
-fit-front (suc k) (c ∷ cs) h = (h.0, fit-front k cs h.1)
+use Rattle.dc_invariant.proofs.Kept.{AreKeptFirst, kept_start, kept_next, kept_fault, kept_keeps, kept_done, flag_at, flags_join, edges_join, next_at, cut_at, one_live, live_cut, live_next}
 
 -- ---- what is shown so far
 module _ (t : Keeping) where
@@ -98,7 +93,7 @@ module _ (t : Keeping) (lent : IsKeeping t) where
   full_at l a m = each_among (IsFullAtom n) (atoms_at l) m
 
   pub in_atoms : (l : ℕ) → AllByRecursion (IsAtom n) (at l)
-  in_atoms l = within_atoms n (at l) (atoms_at l)
+  in_atoms l = full_within n (at l) (atoms_at l)
 
   -- the list of a location as it is read
   pub read_at : (l : ℕ) (d : List Atom) → l < t.system.now.locs → slice_index_or t.printed.now l d ≡ at l
@@ -404,7 +399,7 @@ module _ (t : Keeping) (lent : IsKeeping t) where
       keeps = subst (side.AreEntryKeeps (graph t) t.printed.now t.budget (take (suc i) t.cases.now) (take (suc i) t.live.now)) (sym e)
           (entry_push t.cases.now t.live.now i case b xs ks many_flags inside read told h.keeps w.keeps);
       done = subst (AllDone t.budget) (sym (live_next (entry_asked t.side (graph t) t.printed.now) 0 t.cases.now t.live.now i case b many_flags inside read told))
-          (done_both t.budget (for_live (entry_asked t.side (graph t) t.printed.now) 0 (take i t.cases.now) (take i t.live.now)) _ h.done
+          (both_done t.budget (for_live (entry_asked t.side (graph t) t.printed.now) 0 (take i t.cases.now) (take i t.live.now)) _ h.done
           (subst (λ j. AllDone t.budget (one_live (entry_asked t.side (graph t) t.printed.now) j case b)) (let z : i ≡ 0 + i = omega arith in z) w.done));
     }
 
@@ -466,7 +461,7 @@ module _ (t : Keeping) (lent : IsKeeping t) where
               (subst (AllDone t.budget)
               (sym (edges_join along asks 0 (take i t.system.now.edges) h.flags (e ∷ []) (w.live ∷ []) h.right
               ∙ ap (λ j. for_edges asks 0 (take i t.system.now.edges) h.flags ++ (asks j e w.live ++ [])) before_many ∙ ap (λ zs. for_edges asks 0 (take i t.system.now.edges) h.flags ++ zs) (append-nil (asks i e w.live))))
-              (done_both t.budget (for_edges asks 0 (take i t.system.now.edges) h.flags) (asks i e w.live) h.done w.done));
+              (both_done t.budget (for_edges asks 0 (take i t.system.now.edges) h.flags) (asks i e w.live) h.done w.done));
         }
 
     pub parts_fault : (xs : List EdgeCert) → ArePartsFirst t i xs → (x : InvFault) → IsFault t.budget (EdgeAsks t i e) x → IsFault t.budget (EdgesAsk t) x
@@ -519,8 +514,8 @@ module _ (t : Keeping) (lent : IsKeeping t) where
     flags = b.flags;
     right = b.right;
     part = record { families = f; entry_keeps = a.keeps; edges = b.parts; exit_line = l };
-    through = done_both t.budget first_asked (for_edges asks 0 t.system.now.edges b.flags ++ exit_asked t.side (graph t) t.printed.now ∷ []) a.done
-        (done_both t.budget (for_edges asks 0 t.system.now.edges b.flags) (exit_asked t.side (graph t) t.printed.now ∷ []) b.done (exit_done x.exit_line l, tt));
+    through = both_done t.budget first_asked (for_edges asks 0 t.system.now.edges b.flags ++ exit_asked t.side (graph t) t.printed.now ∷ []) a.done
+        (both_done t.budget (for_edges asks 0 t.system.now.edges b.flags) (exit_asked t.side (graph t) t.printed.now ∷ []) b.done (exit_done x.exit_line l, tt));
   }
 
   pub entry_side_fault : (x : InvFault) → IsFault t.budget (EntryAsks t) x → IsFault t.budget (KeepsAsk t.side (graph t) t.printed.now t.cases.now t.live.now) x
@@ -538,7 +533,7 @@ module _ (t : Keeping) (lent : IsKeeping t) where
       → IsFault t.budget (KeepsAsk t.side (graph t) t.printed.now t.cases.now t.live.now) x
   exit_side_fault xs ys a b x r =
       fault_part t.budget (first_asked ++ for_edges asks 0 t.system.now.edges b.flags) [] (Only (exit_asked t.side (graph t) t.printed.now ∷ [])) (KeepsAsk t.side (graph t) t.printed.now t.cases.now t.live.now)
-      (done_both t.budget first_asked (for_edges asks 0 t.system.now.edges b.flags) a.done b.done)
+      (both_done t.budget first_asked (for_edges asks 0 t.system.now.edges b.flags) a.done b.done)
       (λ asked q. (
         b.flags,
         b.right,

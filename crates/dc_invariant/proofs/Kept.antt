@@ -1,6 +1,6 @@
 -- Lists of keeps, and the problems that they answer, one after another.
 use Rattle.std.specs.Prelude.{◌≡◌, ℕ, zero, suc, ◌+◌, ◌<◌, ◌≤◌, Bool, cond, List, [], ◌∷◌, ◌++◌, map, take, drop, length, slice_index_or, ℤ}
-use Rattle.std.proofs.Common.{refl, sym, ◌∙◌, ap, ap₂, subst, arith, append_assoc, append-nil}
+use Rattle.std.proofs.Common.{sym, ◌∙◌, ap, ap₂, subst, arith, append_assoc, append-nil}
 use Rattle.std.proofs.lemmas.List.{take_all, length-take-le}
 use Rattle.dc_affine.specs.declared.atom.Atom.{Atom}
 use Rattle.dc_system.specs.declared.edges.Edge.{Edge}
@@ -10,13 +10,14 @@ use Rattle.dc_points.specs.Shown.{IsFlag, AreFlags}
 use Rattle.dc_greatest.specs.declared.family.InvFault.{InvFault}
 use Rattle.dc_greatest.specs.Answers.{IsFault}
 use Rattle.dc_greatest.specs.Parts.{for_live, for_edges}
+use Rattle.dc_greatest.proofs.Unchanged.{both_done}
 use Rattle.dc_invariant.specs.Shown.{IsKeep, AreKeeps}
 use Rattle.dc_invariant.specs.Keeps.{numbered}
 use Rattle.dc_invariant.specs.Lent.{Only}
-use Rattle.dc_invariant.proofs.Faults.{fault_part, done_both}
+use Rattle.dc_invariant.proofs.Faults.{fault_part}
 
 -- ---- numbered lists
-numbered_join : {A B : Type 0} (f : ℕ → A → B) (k : ℕ) (xs ys : List A) → numbered f k (xs ++ ys) ≡ numbered f k xs ++ numbered f (k + length xs) ys
+pub numbered_join : {A B : Type 0} (f : ℕ → A → B) (k : ℕ) (xs ys : List A) → numbered f k (xs ++ ys) ≡ numbered f k xs ++ numbered f (k + length xs) ys
 numbered_join f k [] ys = let e : k ≡ k + 0 = omega arith in ap (λ j. numbered f j ys) e
 numbered_join f k (x ∷ xs) ys =
     let e : suc k + length xs ≡ k + suc (length xs) = omega arith in
@@ -59,7 +60,7 @@ module _ (hyps : List Atom) (n : ℕ) (form : Atom → List ℤ) (shown : Atom �
           keeps = subst (λ xs. AreKeeps hyps n form shown budget xs new) (sym s) (subst (AreKeeps hyps n form shown budget (take i atoms ++ a ∷ [])) (sym e) (keeps_push (take i atoms) ks a k h.keeps w));
           done = subst (λ xs. AllDone budget (numbered f 0 xs)) (sym s)
               (subst (AllDone budget) (sym (numbered_join f 0 (take i atoms) (a ∷ []) ∙ ap (λ j. numbered f 0 (take i atoms) ++ f j a ∷ []) long))
-              (done_both budget (numbered f 0 (take i atoms)) (f i a ∷ []) h.done (d, tt)));
+              (both_done budget (numbered f 0 (take i atoms)) (f i a ∷ []) h.done (d, tt)));
         }
 
     pub kept_fault : (ks : List Sparse) → AreKeptFirst atoms i ks → (x : InvFault) → IsFault budget (Only (f i a ∷ [])) x → IsFault budget (Only (numbered f 0 atoms)) x
@@ -84,11 +85,6 @@ module _ (hyps : List Atom) (n : ℕ) (form : Atom → List ℤ) (shown : Atom �
   kept_done atoms i ks l h = subst (λ xs. AllDone budget (numbered f 0 xs)) (take_all i atoms l) h.done
 
 -- ---- flags
-pub flags_many : (bs : List Bool) (hs : List (List Atom)) → AreFlags bs hs → length bs ≡ length hs
-flags_many [] [] h = refl
-flags_many [] (x ∷ hs) h = absurd h
-flags_many (b ∷ bs) [] h = absurd h
-flags_many (b ∷ bs) (x ∷ hs) h = ap suc (flags_many bs hs h.1)
 
 pub flag_at : (bs : List Bool) (hs : List (List Atom)) (i : ℕ) (b : Bool) (h : List Atom) → AreFlags bs hs → i < length hs → b ≡ slice_index_or bs i b → h ≡ slice_index_or hs i h → IsFlag b h
 flag_at [] [] i b h f l e g = absurd (omega arith)

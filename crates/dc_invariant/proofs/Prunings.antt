@@ -29,11 +29,12 @@ use Rattle.dc_greatest.specs.Kept.{stands_for, IsShaped, IsBelow}
 use Rattle.dc_greatest.specs.Answers.{IsFault}
 use Rattle.dc_greatest.proofs.Shapes.{nowhere}
 use Rattle.dc_greatest.proofs.Bridges.{never_there, least_is_number}
+use Rattle.dc_greatest.proofs.Unchanged.{both_done}
 use Rattle.dc_invariant.specs.declared.pruning.Pruning.{Pruning}
 use Rattle.dc_invariant.specs.Prunes.{questions_asked, PrunesAsk}
 use Rattle.dc_invariant.specs.Answers.{TellsPrinted}
 use Rattle.dc_invariant.specs.Lent.{Only, family, question, one_asked, IsOneStep, IsPruning, IsListed, RowsAsk, ArePruned, HasLeast, kept_atom, rows_with, LocationAsks, TellsLocation}
-use Rattle.dc_invariant.proofs.Faults.{fault_to, fault_before, done_both}
+use Rattle.dc_invariant.proofs.Faults.{fault_to, fault_before}
 use Rattle.dc_invariant.proofs.Steps.{split_at, remove_at, number_at, filter_same, all_filter, map_same_on, all_mapped, all_without, live_without}
 
 module _ (t : Pruning) (l : ℕ) where
@@ -131,7 +132,7 @@ module _ (t : Pruning) (l : ℕ) where
     more_done : IsDone t.budget (one_asked (site.Prune t.side l r) k atoms) → AllDone t.budget (map (question t l) (h.asked ++ q ∷ []))
     more_done d =
         subst (AllDone t.budget) (sym (map-append (question t l) h.asked (q ∷ [])))
-        (done_both t.budget (map (question t l) h.asked) (question t l q ∷ []) h.done (subst (IsDone t.budget) same_question d, tt))
+        (both_done t.budget (map (question t l) h.asked) (question t l q ∷ []) h.done (subst (IsDone t.budget) same_question d, tt))
 
     pub left_next : (new : List Atom) → IsOneStep (site.Prune t.side l r) k t.budget atoms new → IsLeft rows k new
     left_next new s = by s.step
@@ -370,7 +371,7 @@ module _ (t : Pruning) where
           (subst (λ j. IsPrinted t.candidates.now (family t) j t.system.now.vars atoms a.questions) (sym w) a.printed_is))
     ];
     done = subst (AllDone t.budget) (sym (questions_joined 0 h.questions (a.questions ∷ [])))
-        (done_both t.budget (questions_asked t.side t.candidates.now (family t) 0 h.questions) _ h.done
+        (both_done t.budget (questions_asked t.side t.candidates.now (family t) 0 h.questions) _ h.done
         (subst (AllDone t.budget) (sym (append-nil (map (question t (0 + length h.questions)) a.questions)))
         (subst (λ j. AllDone t.budget (map (question t j) a.questions)) (let m = h.one_part_each in let z : k ≡ 0 + length h.questions = omega arith in z) a.done)));
   }

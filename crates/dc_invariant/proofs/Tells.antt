@@ -1,7 +1,7 @@
 -- From the answers of one problem to what is made of them.
-use Rattle.std.specs.Prelude.{◌≡◌, ◌↔◌, ℕ, ◌<◌, ◌≤◌, ◌^◌, Bool, true, false, List, [], ◌∷◌, length, take, sum_by, unsigned_abs, ℤ, IsTrue}
+use Rattle.std.specs.Prelude.{◌≡◌, ◌↔◌, ℕ, ◌<◌, ◌≤◌, ◌^◌, Bool, false, List, [], ◌∷◌, length, take, sum_by, unsigned_abs, ℤ, IsTrue}
 use Rattle.std.specs.List.{AllByRecursion}
-use Rattle.std.proofs.Common.{refl, sym, ◌∙◌, ap, subst, arith}
+use Rattle.std.proofs.Common.{sym, ◌∙◌, ap, subst, arith}
 use Rattle.std.proofs.lemmas.List.{take_all}
 use Rattle.dc_math.specs.Rational.{of_ℤ, ◌≤ℚ◌}
 use Rattle.dc_frac.specs.declared.Frac.{Frac}
@@ -16,9 +16,9 @@ use Rattle.dc_cert.specs.Vectors.{nonzero_from, entry_of}
 use Rattle.dc_entail.specs.declared.answer.Site.{Site}
 use Rattle.dc_entail.specs.Answers.{TellsDead, TellsLive, TellsLeast, TellsNoBound}
 use Rattle.dc_entail.specs.Asked.{ask, IsDone}
-use Rattle.dc_points.specs.Points.{IsDead, Entails, EntailsFrom}
+use Rattle.dc_points.specs.Points.{Entails, EntailsFrom}
 use Rattle.dc_points.specs.Stated.{coefficient_of, empty_problem, sup_problem}
-use Rattle.dc_points.specs.Shown.{IsFlag, ShowsAtom}
+use Rattle.dc_points.specs.Shown.{ShowsAtom}
 use Rattle.dc_points.proofs.Whole.{atoms_are_forms}
 use Rattle.dc_families.proofs.Lists.{differ}
 use Rattle.dc_moves.proofs.Forms.{row_is_light}
@@ -91,12 +91,6 @@ live_line hyps n budget y k t e = record {
   vector = record { whole = y; outcome = t.outcome; items = e };
   shows = live_same hyps n (numbers y) (entry_of k.items) (λ i l. ap (λ is. entry_of is i) e ∙ entry_is y i (let m = t.outcome.vector.long in omega arith)) t.shows;
 }
-
-pub dead_flag : (hyps : List Atom) → IsDead hyps → IsFlag false hyps
-dead_flag hyps d = ((λ t. differ (sym t)), (λ n. absurd (n d)))
-
-pub live_flag : (hyps : List Atom) → ¬ IsDead hyps → IsFlag true hyps
-live_flag hyps n = ((λ t. n), (λ m. refl))
 
 pub line_done_dead : (hyps : List Atom) (n budget : ℕ) (k : Sparse) (site : Site) → IsDeadLine hyps n budget k → IsDone budget (ask site (empty_problem hyps n))
 line_done_dead hyps n budget k site h = (h.vector.outcome.comes.pivots, Optimal, h.vector.outcome.table, h.vector.outcome.comes.answer)

@@ -1,28 +1,22 @@
 -- Printed atoms have a coefficient for each variable, and the sizes of an atom.
-use Rattle.std.specs.Prelude.{◌≡◌, ℕ, zero, suc, ◌<◌, ◌≤◌, Bool, true, false, cond, List, [], ◌∷◌, ◌++◌, map, replicate, length, slice_index_or, pos, unsigned_abs}
+use Rattle.std.specs.Prelude.{◌≡◌, ℕ, ◌≤◌, Bool, true, false, List, [], ◌∷◌, ◌++◌, pos, unsigned_abs}
 use Rattle.std.specs.List.{AllByRecursion}
-use Rattle.std.proofs.Common.{refl, sym, ap, subst, arith}
+use Rattle.std.proofs.Common.{refl, sym, subst, arith}
 use Rattle.std.proofs.lemmas.Int.{ints}
-use Rattle.dc_math.specs.Members.{Among, head, tail, each_left, at_each, each_among, among_each, at_among}
+use Rattle.std.proofs.lemmas.List.{length-replicate}
+use Rattle.dc_math.specs.Members.{Among, each_left, at_each, each_among, among_each, at_among}
 use Rattle.dc_affine.specs.declared.atom.Atom.{Atom}
-use Rattle.dc_affine.specs.Atoms.{AllFit, IsFullAtom}
+use Rattle.dc_affine.specs.Atoms.{IsFullAtom}
+use Rattle.dc_affine.proofs.Within.{zeros_fit}
 use Rattle.dc_rows.specs.declared.kinds.Candidates.{Candidates}
 use Rattle.dc_rows.specs.Bounds.{largest_bound}
 use Rattle.dc_rows.specs.Candidate.{row_at, IsRow, AreCandidates}
 use Rattle.dc_families.specs.Families.{Family, never, bounded, or_zero, kept_rows, least_atom}
-use Rattle.dc_families.specs.Printed.{Question, atoms_of, Pruned, done, drops, keeps, IsPrinted}
+use Rattle.dc_families.specs.Printed.{Question, Pruned, done, drops, keeps, IsPrinted}
 use Rattle.dc_families.proofs.Lists.{find_is}
 use Rattle.dc_families.proofs.Upward.{kept_is}
 use Rattle.dc_invariant.specs.Laws.{PrintedAreAtoms}
 use Rattle.dc_invariant.proofs.Steps.{all_mapped}
-
-zeros_fit : (n : ℕ) → AllFit (replicate n (pos 0))
-zeros_fit zero = tt
-zeros_fit (suc n) = (omega arith, zeros_fit n)
-
-long-zeros : (n : ℕ) → length (replicate n (pos 0)) ≡ n
-long-zeros zero = refl
-long-zeros (suc n) = ap suc (long-zeros n)
 
 module _ {A : Type 0} (P : A → Type 0) where
   last_too : (xs : List A) (y : A) → AllByRecursion P (xs ++ y ∷ []) → P y
@@ -63,8 +57,8 @@ module _ (n : ℕ) (c : Candidates) (J : Family) (l : ℕ) (kind : AreCandidates
     where
       false_full : IsFullAtom n (never n)
       false_full = record {
-        one_each = long-zeros n;
-        within = record { few = (let q = long-zeros n in omega arith); coefs_within = zeros_fit n; constant_within = omega (arith, ints) };
+        one_each = length-replicate n (pos 0);
+        within = record { few = (let q = length-replicate n (pos 0) in omega arith); coefs_within = zeros_fit n; constant_within = omega (arith, ints) };
       }
 
       by : (b : Bool) → J l (never n) ≡ b → AllByRecursion (IsFullAtom n) printed

@@ -1,11 +1,7 @@
 -- Tests below a bound.
-use Rattle.std.proofs.Common.{◌≡◌, ℕ, zero, suc, ◌<◌, ◌≤◌, Bool, true, false, ◌&&◌, ◌||◌, refl, arith, inl, inr, nat_lt}
-use Rattle.std.proofs.lemmas.Bool.{cases_Bool, ltb-false, ltb-true}
+use Rattle.std.proofs.Common.{◌≡◌, ℕ, zero, suc, ◌<◌, ◌≤◌, Bool, true, false, ◌||◌, refl, arith, inl, inr, nat_lt}
+use Rattle.std.proofs.lemmas.Bool.{cases_Bool, ltb-false, ltb-true, and_right}
 use Rattle.dc_lp.specs.Meanings.{all_below}
-
-pub and_false : (a b : Bool) → b ≡ false → a && b ≡ false
-and_false true b e = e
-and_false false b e = refl
 
 pub or_true : (b : Bool) → b || true ≡ true
 or_true true = refl
@@ -20,7 +16,7 @@ all_below-fails test i zero e lt = absurd (omega arith)
 all_below-fails test i (suc n) e lt =
     elim (cases_Bool (nat_lt i n)) [
       | inl b ↦ rw (all_below-fails test i n e (ltb-true i n b)) refl
-      | inr b ↦ (let up : n ≤ i = ltb-false i n b in let same : i ≡ n = omega arith in and_false (all_below n test) (test n) (rw (← same) e))
+      | inr b ↦ (let up : n ≤ i = ltb-false i n b in let same : i ≡ n = omega arith in and_right (all_below n test) (test n) (rw (← same) e))
     ]
 
 pub all_below-same : (n : ℕ) (f g : ℕ → Bool) → ((k : ℕ) → k < n → f k ≡ g k) → all_below n f ≡ all_below n g

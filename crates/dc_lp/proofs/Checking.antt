@@ -5,7 +5,8 @@ use Rattle.std.specs.Ordering.{int_eq, MatchOrdering}
 use Rattle.std.specs.declared.cmp.Ordering.{Ordering}
 use Rattle.std.specs.declared.cmp.Ordering.TheVariants.{Less, Equal, Greater}
 use Rattle.std.proofs.Common.{refl, sym, ◌∙◌, ap, subst, arith, below_more, inl, inr}
-use Rattle.std.proofs.lemmas.Bool.{lt-ltb, le-ltb}
+use Rattle.std.proofs.lemmas.Bool.{lt-ltb, le-ltb, not-true}
+use Rattle.std.proofs.lemmas.Option.{same_Some}
 use Rattle.dc_math.specs.Rational.{ℚ, ◌*ℚ◌, of_ℤ, le_ℚ, ◌≤ℚ◌, ◌<ℚ◌, <ℚ-≤ℚ, *ℚ_comm}
 use Rattle.dc_math.specs.Order.{≤ℚ_same}
 use Rattle.dc_math.specs.Sums.{sum_ℚ_same}
@@ -50,15 +51,11 @@ module _ (xs : List Frac) (j : ℕ) (x : Frac) (l : j < length xs) (e : x ≡ sl
   to_true true h = refl
   to_true false h = absurd (cc)
 
-  to_false : (b : Bool) → not b ≡ true → b ≡ false
-  to_false true h = absurd (cc)
-  to_false false h = refl
-
   pub sign_passes : is_negative (value x) ≡ false → sign_test (numbers xs) j ≡ Some true
   sign_passes h = ap Some (ap (le_ℚ (of_ℤ (pos 0))) read ∙ to_true (le_ℚ (of_ℤ (pos 0)) (value x)) h)
 
   pub sign_fails : is_negative (value x) ≡ true → sign_test (numbers xs) j ≡ Some false
-  sign_fails h = ap Some (ap (le_ℚ (of_ℤ (pos 0))) read ∙ to_false (le_ℚ (of_ℤ (pos 0)) (value x)) h)
+  sign_fails h = ap Some (ap (le_ℚ (of_ℤ (pos 0))) read ∙ not-true (le_ℚ (of_ℤ (pos 0)) (value x)) h)
 
 -- ---- the tests by number
 pub primal-sign : (p : Problem) (x : ℕ → ℚ) (k : ℕ) → k < columns p → primal_test p x k ≡ sign_test x k
@@ -95,9 +92,6 @@ passed : (f : ℚ → Bool) (o : Option ℚ) → option_map f o ≡ Some true �
 passed f None e = absurd (cc)
 passed f (Some s) e = (s, refl, cc)
 
-some_true : (b : Bool) → Some b ≡ Some true → b ≡ true
-some_true b e = cc
-
 price-sum : (p : Problem) (y : ℕ → ℚ) (j : ℕ) (s : ℚ) → price_fold p y j ≡ Some s → s ≡ combined (linear_of p) y j
 price-sum p y j s e =
     folded-sum p.rows (λ i. coefficient p i j) y s e
@@ -133,7 +127,7 @@ valued p x y h = by (cost_fold p x) (cost-sum p x) h
 -- ---- what it says that all are true
 pub primal-solution : (p : Problem) (x : ℕ → ℚ) → AllHold (primal_test p x) (columns p + p.rows) → IsSolution (linear_of p) x
 primal-solution p x h = record {
-  signs = λ j l. record { le = (le_ℚ_true _ _ (some_true (le_ℚ (of_ℤ (pos 0)) (x j)) (sym (primal-sign p x j l) ∙ h j (omega arith)))).le };
+  signs = λ j l. record { le = (le_ℚ_true _ _ (same_Some (le_ℚ (of_ℤ (pos 0)) (x j)) true (sym (primal-sign p x j l) ∙ h j (omega arith)))).le };
   equations = λ i l. solved p x (whole_at p.b.items i) i (sym (primal-equation p x i) ∙ h (columns p + i) (omega arith));
 }
 
@@ -155,7 +149,7 @@ pub ray-is : (p : Problem) (r : ℕ → ℚ) → AllHold (ray_test p r) (columns
 ray-is p r h =
     let t = passed is_negative (cost_fold p r) (sym (ray-cost p r) ∙ h (columns p + p.rows) (omega arith)) in
     record {
-      signs = λ j l. record { le = (le_ℚ_true _ _ (some_true (le_ℚ (of_ℤ (pos 0)) (r j)) (sym (ray-sign p r j l) ∙ h j (omega arith)))).le };
+      signs = λ j l. record { le = (le_ℚ_true _ _ (same_Some (le_ℚ (of_ℤ (pos 0)) (r j)) true (sym (ray-sign p r j l) ∙ h j (omega arith)))).le };
       equations = λ i l. solved p r (pos 0) i (sym (ray-equation p r i l) ∙ h (columns p + i) (omega arith));
       falls = subst (λ z. z <ℚ of_ℤ (pos 0)) (cost-sum p r t.0 t.1) (lt_ℚ_true _ _ t.2);
     }

@@ -4,7 +4,7 @@ use Rattle.std.proofs.Common.{refl, sym, ◌∙◌, ap, subst, inl, inr}
 use Rattle.dc_math.specs.Rational.{ℚ, ◌+ℚ◌, ◌*ℚ◌, ◌-ℚ◌, neg_ℚ, of_ℤ, ◌≤ℚ◌, ◌<ℚ◌, <ℚ-≤ℚ, <ℚ-not, ≤ℚ_or, ≤ℚ-sub, *ℚ_comm, zero-*ℚ, NonNegative, NonNegative-+ℚ, NonNegative-*ℚ}
 use Rattle.dc_math.specs.RationalRing.{ring, reads, read_nat, same_form, *ℚ-≤ℚ, linear₁}
 use Rattle.dc_math.specs.Inverse.{inverse, *ℚ-inverse}
-use Rattle.dc_math.specs.Order.{Positive, Positive_nonzero, inverse_positive, one_positive, <ℚ-sub, <ℚ_by}
+use Rattle.dc_math.specs.Order.{Positive, Positive_nonzero, inverse_positive, one_positive, <ℚ-sub, <ℚ_by, zero-minus}
 use Rattle.dc_math.specs.Sums.{sum_ℚ, sum_ℚ_same, sum_ℚ_swap, sum_ℚ_zero, sum_ℚ-*ℚ, sum_ℚ-+ℚ, sum_ℚ-≤ℚ}
 use Rattle.dc_lp.specs.Linear.{Linear, left_side, combined, combined_right, cost_of, IsSolution, IsRay}
 use Rattle.dc_lp.specs.Laws.{WeakDuality, BestByDual, RefutationExcludes, RayGoesOn}
@@ -74,12 +74,9 @@ module _ (p : Linear ℚ) (r : ℕ → ℚ) (h : IsRay p r) (x : ℕ → ℚ) (s
   slope : ℚ
   slope = neg_ℚ (cost_of p r)
 
-  zero_less : (c : ℚ) → of_ℤ (pos 0) -ℚ c ≡ neg_ℚ c
-  zero_less c = ring (c ∷ []) (λ ρ p. simp (p, read_nat ρ, reads) (same_form _ _ _ refl))
-
   slope-positive : Positive slope
   unfolding slope
-  slope-positive = subst Positive (zero_less (cost_of p r)) (<ℚ-sub (cost_of p r) (of_ℤ (pos 0)) h.falls)
+  slope-positive = subst Positive (zero-minus (cost_of p r)) (<ℚ-sub (cost_of p r) (of_ℤ (pos 0)) h.falls)
 
   -- far enough: the cost passes the bound by 1
   enough : ℚ → ℚ

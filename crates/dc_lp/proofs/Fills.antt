@@ -5,6 +5,7 @@ use Rattle.std.proofs.Common.{refl, sym, ◌∙◌, ap, ap₂, subst, inl, inr, 
 use Rattle.std.proofs.lemmas.Bool.{cases_Bool, eqb-true}
 use Rattle.std.proofs.lemmas.Bool.Decides.{same_from_decides}
 use Rattle.std.proofs.lemmas.List.FromFn.{get_or-map-range_with_len}
+use Rattle.std.proofs.Math.Bool.{and-false}
 use Rattle.dc_math.specs.Rational.{ℚ, ◌*ℚ◌, ◌+ℚ◌, neg_ℚ, of_ℤ, zero-*ℚ}
 use Rattle.dc_math.specs.RationalRing.{ring, reads, read_nat, same_form, linear₂}
 use Rattle.dc_math.specs.RationalField.{rationals}
@@ -18,9 +19,6 @@ use Rattle.dc_lp.specs.Fill.{is_filled, meets_gap, count_cells, fill, gaps, entr
 use Rattle.dc_lp.specs.Laws.{Fills, EntriesGrow}
 use Rattle.dc_lp.proofs.Counts.{one_if, count_cells-same, count_cells-sum}
 
-zero-is : (x : ℚ) → is_zero x ≡ true → x ≡ of_ℤ (pos 0)
-zero-is x e = eq_ℚ_true x (of_ℤ (pos 0)) e
-
 is-zero : (x : ℚ) → x ≡ of_ℤ (pos 0) → is_zero x ≡ true
 is-zero x e = eq_ℚ-true x (of_ℤ (pos 0)) e
 
@@ -28,7 +26,7 @@ zero-not : (x : ℚ) → is_zero x ≡ false → x ≢ of_ℤ (pos 0)
 zero-not x e = eq_ℚ_false x (of_ℤ (pos 0)) e
 
 same-zero : (x y : ℚ) → (x ≡ of_ℤ (pos 0) → y ≡ of_ℤ (pos 0)) → (y ≡ of_ℤ (pos 0) → x ≡ of_ℤ (pos 0)) → is_zero x ≡ is_zero y
-same-zero x y f g = same_from_decides {P = x ≡ of_ℤ (pos 0)} _ _ (zero-is x, is-zero x) (λ e. g (zero-is y e), λ h. is-zero y (f h))
+same-zero x y f g = same_from_decides {P = x ≡ of_ℤ (pos 0)} _ _ (eq_ℚ_true x (of_ℤ (pos 0)), is-zero x) (λ e. g (eq_ℚ_true y (of_ℤ (pos 0)) e), λ h. is-zero y (f h))
 
 -- an entry of a pivoted table
 pub pivoted-at : (t : Table ℚ) (r j i k : ℕ) → i < height t → k < width t → at (pivoted t r j) i k ≡ tables.pivoted_entry ℚ rationals t r j i k
@@ -61,7 +59,7 @@ module _ (t : Table ℚ) (r j : ℕ) (h : IsPivotCell t r j) where
   entry i k = tables.pivoted_entry ℚ rationals t r j i k
 
   row_stays : (i k : ℕ) → i ≡ r → is_zero (at t i k) ≡ true → is_zero (divided t r j k) ≡ true
-  row_stays i k e z = is-zero _ (no_entry _ _ (ap (λ u. at t u k) (sym e) ∙ zero-is _ z))
+  row_stays i k e z = is-zero _ (no_entry _ _ (ap (λ u. at t u k) (sym e) ∙ eq_ℚ_true _ (of_ℤ (pos 0)) z))
 
   each : (i k : ℕ) → i < height t → k < width t → is_filled t r j i k ≡ meets_gap t r j i k
   each i k li lk = elim (cases_Bool (is_zero (at t i k))) [
@@ -69,18 +67,14 @@ module _ (t : Table ℚ) (r j : ℕ) (h : IsPivotCell t r j) where
     | inl a ↦ rw (a, pivoted-at t r j i k li lk) (elim (cases_Bool (i == r)) [
       | inl b ↦
           let e : i ≡ r = eqb-true i r b in
-          rw (b, row_stays i k e a) (sym (ap (λ v. not (is_zero (at t i j)) && not v) (ap (λ u. is_zero (at t u k)) (sym e) ∙ a) ∙ and_false _))
+          rw (b, row_stays i k e a) (sym (ap (λ v. not (is_zero (at t i j)) && not v) (ap (λ u. is_zero (at t u k)) (sym e) ∙ a) ∙ and-false _))
       | inr b ↦ elim (cases_Bool (is_zero (at t i j))) [
         | inl d ↦ rw (b, d, a) refl
-        | inr d ↦ rw (b, d) (ap not (same-zero _ _ (took_none (at t i k) (at t i j) (at t r k) (at t r j) (zero-is _ a) (zero-not _ d) nonzero)
-            (takes_none (at t i k) (at t i j) (at t r k) (inverse (at t r j)) (zero-is _ a))))
+        | inr d ↦ rw (b, d) (ap not (same-zero _ _ (took_none (at t i k) (at t i j) (at t r k) (at t r j) (eq_ℚ_true _ (of_ℤ (pos 0)) a) (zero-not _ d) nonzero)
+            (takes_none (at t i k) (at t i j) (at t r k) (inverse (at t r j)) (eq_ℚ_true _ (of_ℤ (pos 0)) a))))
       ]
     ])
   ]
-    where
-      and_false : (b : Bool) → b && false ≡ false
-      and_false true = refl
-      and_false false = refl
 
   number : fill t r j ≡ gaps t r j
   unfolding fill gaps
@@ -96,11 +90,11 @@ one_more true false = omega arith
 one_more false true = omega arith
 one_more false false = omega arith
 
-basis-long : (t : Table ℚ) (r j : ℕ) → length (pivoted t r j).basis ≡ length t.basis
+pub pivoted-basis : (t : Table ℚ) (r j : ℕ) → length (pivoted t r j).basis ≡ length t.basis
 unfolding tables.pivoted
-basis-long t r j = simp length-set
+pivoted-basis t r j = simp length-set
 
-pivoted-real : (t : Table ℚ) (r j : ℕ) → (pivoted t r j).real ≡ t.real
+pub pivoted-real : (t : Table ℚ) (r j : ℕ) → (pivoted t r j).real ≡ t.real
 unfolding tables.pivoted
 pivoted-real t r j = refl
 
@@ -108,5 +102,5 @@ pub entries_grow : EntriesGrow
 unfolding entry_count fill
 entries_grow t r j =
     subst (λ n. n ≤ count_cells (height t) (width t) (λ i k. not (is_zero (at t i k))) + count_cells (height t) (width t) (is_filled t r j))
-    (ap₂ (λ h w. count_cells h w (λ i k. not (is_zero (at (pivoted t r j) i k)))) (ap (λ n. n + 2) (sym (basis-long t r j))) (ap₂ (λ a n. a + n + 1) (sym (pivoted-real t r j)) (sym (basis-long t r j))))
+    (ap₂ (λ h w. count_cells h w (λ i k. not (is_zero (at (pivoted t r j) i k)))) (ap (λ n. n + 2) (sym (pivoted-basis t r j))) (ap₂ (λ a n. a + n + 1) (sym (pivoted-real t r j)) (sym (pivoted-basis t r j))))
     (count_cells-sum (λ i k. not (is_zero (at (pivoted t r j) i k))) (λ i k. not (is_zero (at t i k))) (is_filled t r j) (height t) (width t) (λ i k. one_more (is_zero (at t i k)) (is_zero (at (pivoted t r j) i k))))

@@ -3,8 +3,8 @@ use Rattle.std.specs.Prelude.{◌≡◌, ◌⊎◌, ℕ, zero, suc, ℤ, pos, Bo
 use Rattle.std.specs.Option.{option_and_then}
 use Rattle.std.proofs.Common.{refl, sym, ◌∙◌, ap, inl, inr, arith}
 use Rattle.std.proofs.lemmas.Bool.{and_from}
-use Rattle.dc_math.specs.Rational.{ℚ, ◌+ℚ◌, ◌*ℚ◌, of_ℤ, zero-*ℚ, *ℚ_comm}
-use Rattle.dc_math.specs.RationalField.{+ℚ-zero}
+use Rattle.std.proofs.lemmas.Option.{same_Some}
+use Rattle.dc_math.specs.Rational.{ℚ, ◌+ℚ◌, ◌*ℚ◌, of_ℤ, zero-*ℚ, *ℚ_comm, +ℚ-zero}
 use Rattle.dc_math.specs.Sums.{sum_ℚ, sum_ℚ_none, sum_ℚ_last}
 use Rattle.dc_frac.specs.Fits.{fits, product_fits, sum_fits}
 use Rattle.dc_frac.proofs.FitLaws.{sum-fits}
@@ -12,20 +12,17 @@ use Rattle.dc_frac.proofs.ZeroSums.{right_zero, fits-zero, product_fits-zero}
 use Rattle.dc_lp.specs.Folds.{added, folded, folded_over, checked}
 use Rattle.dc_lp.specs.Laws.{LeavesOut, SumsFit}
 
-injective : (s t : ℚ) → Some s ≡ Some t → s ≡ t
-injective s t e = cc
-
 pub added-sum : (s : ℚ) (a : ℤ) (x t : ℚ) → added s a x ≡ Some t → t ≡ s +ℚ of_ℤ a *ℚ x
 unfolding added
 added-sum s a x t e = by (product_fits (of_ℤ a) x && sum_fits s (of_ℤ a *ℚ x)) e
   where
     by : (fits : Bool) → checked fits (s +ℚ of_ℤ a *ℚ x) ≡ Some t → t ≡ s +ℚ of_ℤ a *ℚ x
-    by true e = sym (injective (s +ℚ of_ℤ a *ℚ x) t e)
+    by true e = sym (same_Some (s +ℚ of_ℤ a *ℚ x) t e)
     by false e = absurd (cc)
 
 pub folded-sum : (n : ℕ) (a : ℕ → ℤ) (x : ℕ → ℚ) (s : ℚ) → folded n a x ≡ Some s → s ≡ sum_ℚ n (λ k. of_ℤ (a k) *ℚ x k)
 unfolding folded
-folded-sum zero a x s e = sym (injective (of_ℤ (pos 0)) s e) ∙ sym (sum_ℚ_none (λ k. of_ℤ (a k) *ℚ x k))
+folded-sum zero a x s e = sym (same_Some (of_ℤ (pos 0)) s e) ∙ sym (sum_ℚ_none (λ k. of_ℤ (a k) *ℚ x k))
 folded-sum (suc n) a x s e = by (folded n a x) (folded-sum n a x) e
   where
     by : (o : Option ℚ) → ((r : ℚ) → o ≡ Some r → r ≡ sum_ℚ n (λ k. of_ℤ (a k) *ℚ x k)) → option_and_then (λ r. added r (a n) (x n)) o ≡ Some s → s ≡ sum_ℚ (suc n) (λ k. of_ℤ (a k) *ℚ x k)
@@ -38,13 +35,13 @@ unfolding added
 added-fits s a x t e = by (product_fits (of_ℤ a) x) (sum_fits s (of_ℤ a *ℚ x)) (sum-fits s (of_ℤ a *ℚ x)) e
   where
     by : (b c : Bool) → (c ≡ true → fits (s +ℚ of_ℤ a *ℚ x) ≡ true) → checked (b && c) (s +ℚ of_ℤ a *ℚ x) ≡ Some t → fits t ≡ true
-    by true true f e = ap fits (sym (injective (s +ℚ of_ℤ a *ℚ x) t e)) ∙ f refl
+    by true true f e = ap fits (sym (same_Some (s +ℚ of_ℤ a *ℚ x) t e)) ∙ f refl
     by true false f e = absurd (cc)
     by false c f e = absurd (cc)
 
 pub folded-fits : (n : ℕ) (a : ℕ → ℤ) (x : ℕ → ℚ) (s : ℚ) → folded n a x ≡ Some s → fits s ≡ true
 unfolding folded
-folded-fits zero a x s e = ap fits (sym (injective (of_ℤ (pos 0)) s e)) ∙ fits-zero
+folded-fits zero a x s e = ap fits (sym (same_Some (of_ℤ (pos 0)) s e)) ∙ fits-zero
 folded-fits (suc n) a x s e = by (folded n a x) e
   where
     by : (o : Option ℚ) → option_and_then (λ r. added r (a n) (x n)) o ≡ Some s → fits s ≡ true

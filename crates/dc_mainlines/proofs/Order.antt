@@ -15,13 +15,11 @@ use Rattle.dc_clauses.specs.Steps.{Test, all_of, counted, first_failure}
 use Rattle.dc_clauses.specs.Lines.{at, is, is_at_most}
 use Rattle.dc_clauses.specs.Mains.{whole_problem, multipliers, short_column, short_coefficient, left_fold, equation_test, equation_tests, price_test, price_tests, threshold_tests, ray_tests, fall_tests}
 use Rattle.dc_clauses.proofs.Tests.{all_of-one}
-use Rattle.dc_clauses.proofs.Walks.{first_failure-++, first_failure-stops}
+use Rattle.dc_clauses.proofs.Walks.{first_failure-++}
 use Rattle.dc_clauses.proofs.Items.{folded_same}
 use Rattle.dc_mainlines.specs.Sums.{AreSums, solved, priced, short_columns}
 
 -- ---- steps after steps
-pub stops : (a b : List Step) (x : Step) → Some x ≡ first_failure a → Some x ≡ first_failure (a ++ b)
-stops a b x e = first_failure-stops a b x e
 
 pub goes_on : (a b : List Step) (r : Option Step) → None ≡ first_failure a → r ≡ first_failure b → r ≡ first_failure (a ++ b)
 goes_on a b r e h = h ∙ sym (first_failure-++ a b e)

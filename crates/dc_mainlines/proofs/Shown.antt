@@ -4,7 +4,7 @@ use Rattle.std.proofs.Common.{refl, sym, ◌∙◌, ap, ap₂, subst, arith}
 use Rattle.std.proofs.lemmas.Bool.{lt-ltb, le-ltb}
 use Rattle.dc_math.specs.Rational.{ℚ, ◌+ℚ◌, ◌*ℚ◌, neg_ℚ, of_ℤ, ◌≤ℚ◌, ◌<ℚ◌, NonNegative, zero-*ℚ, *ℚ_comm}
 use Rattle.dc_math.specs.RationalRing.{ring, reads, read_nat, same_form}
-use Rattle.dc_math.specs.Order.{of_ℤ-neg_ℤ, ≤ℚ_same}
+use Rattle.dc_math.specs.Order.{of_ℤ-neg_ℤ, ≤ℚ_same, *ℚ-neg_ℚ}
 use Rattle.dc_math.specs.Sums.{sum_ℚ, sum_ℚ_first, sum_ℚ_same, sum_ℚ_zero, sum_ℚ-neg_ℚ}
 use Rattle.dc_frac.specs.Value.{value}
 use Rattle.dc_lp.specs.Linear.{Linear, left_side, combined, cost_of, IsSolution, IsRay, CostAtLeast}
@@ -22,13 +22,6 @@ use Rattle.dc_mainlines.specs.Paired.{IsPaired}
 use Rattle.dc_mainlines.specs.Laws.{StepsShow, IsLeastCost}
 use Rattle.dc_mainlines.proofs.Pairs.{behind, behind-is, plus_index, minus_index, Owner, first_of, second_of, after, owner, vector, vector_sign, sum_split, vector_sum}
 use Rattle.dc_mainlines.proofs.Tested.{holds_first, holds_second, numbered, both_parts, is_sum, at_most_sum, equal_sum, positive_sum, same_number, negative_number, positive_items}
-
--- sums that are the same number
-same_some : (x y : ℚ) → Some x ≡ Some y → x ≡ y
-same_some x y e = cc
-
-times_zero : (a : ℚ) → a *ℚ of_ℤ (pos 0) ≡ of_ℤ (pos 0)
-times_zero a = *ℚ_comm a (of_ℤ (pos 0)) ∙ zero-*ℚ a
 
 module _ (m : Linear ℤ) (u : ℕ) (h : IsPaired m u) where
   -- ---- columns
@@ -127,11 +120,8 @@ module _ (m : Linear ℤ) (u : ℕ) (h : IsPaired m u) where
   minus_price : (dual : Sparse) (k : ℕ) → k < u → combined (rational m) (at dual) (suc (k * 2)) ≡ neg_ℚ (combined (rational m) (at dual) (k * 2))
   minus_price dual k l =
       sum_ℚ_same m.equations (λ i. at dual i *ℚ of_ℤ (m.coefficient i (suc (k * 2)))) (λ i. neg_ℚ (at dual i *ℚ of_ℤ (m.coefficient i (k * 2))))
-      (λ i g. ap (λ z. at dual i *ℚ z) (ap of_ℤ (h.minus i k l) ∙ of_ℤ-neg_ℤ (m.coefficient i (k * 2))) ∙ out (at dual i) (of_ℤ (m.coefficient i (k * 2))))
+      (λ i g. ap (λ z. at dual i *ℚ z) (ap of_ℤ (h.minus i k l) ∙ of_ℤ-neg_ℤ (m.coefficient i (k * 2))) ∙ *ℚ-neg_ℚ (at dual i) (of_ℤ (m.coefficient i (k * 2))))
       ∙ sum_ℚ-neg_ℚ m.equations (λ i. at dual i *ℚ of_ℤ (m.coefficient i (k * 2)))
-    where
-      out : (x y : ℚ) → x *ℚ neg_ℚ y ≡ neg_ℚ (x *ℚ y)
-      out x y = ring (x ∷ y ∷ []) (λ ρ i j. simp (i, j, reads) (same_form _ _ _ refl))
 
   times_price : (cost : ℕ → ℤ) (dual : Sparse) (k : ℕ) → price_test m u cost dual (u + k) ≡ Some true → combined (rational m) (at dual) (behind u k) ≤ℚ of_ℤ (pos 0)
   times_price cost dual k e =

@@ -4,6 +4,7 @@ use Rattle.std.specs.List.{range_with_len}
 use Rattle.std.specs.Option.{option_map}
 use Rattle.std.proofs.Common.{refl, sym, ◌∙◌, ap, arith}
 use Rattle.std.proofs.lemmas.Bool.{eqb-true, eqb-false}
+use Rattle.std.proofs.lemmas.Option.{same_Some}
 use Rattle.dc_math.specs.Rational.{ℚ, of_ℤ, le_ℚ, ◌≤ℚ◌, ◌<ℚ◌, ≤ℚ_refl, <ℚ-≤ℚ, NonNegative}
 use Rattle.dc_math.specs.Tests.{eq_ℚ, eq_ℚ_true, is_positive, is_negative, le_ℚ_true, lt_ℚ_true}
 use Rattle.dc_frac.specs.Value.{value}
@@ -45,30 +46,28 @@ both_parts (Some false) t e = absurd cc
 both_parts None t e = absurd cc
 
 -- ---- tests of sums
-pub unwrapped : (b : Bool) → Some b ≡ Some true → b ≡ true
-unwrapped b e = cc
 
 pub is_sum : (o : Option ℚ) (c : ℤ) → is o c ≡ Some true → o ≡ Some (of_ℤ c)
 is_sum None c e = absurd cc
-is_sum (Some s) c e = ap Some (eq_ℚ_true s (of_ℤ c) (unwrapped (eq_ℚ s (of_ℤ c)) e))
+is_sum (Some s) c e = ap Some (eq_ℚ_true s (of_ℤ c) (same_Some (eq_ℚ s (of_ℤ c)) true e))
 
 pub at_most_sum : (o : Option ℚ) (c : ℤ) → is_at_most o c ≡ Some true → (s : ℚ) × (o ≡ Some s) × (s ≤ℚ of_ℤ c)
 at_most_sum None c e = absurd cc
-at_most_sum (Some s) c e = (s, refl, le_ℚ_true s (of_ℤ c) (unwrapped (le_ℚ s (of_ℤ c)) e))
+at_most_sum (Some s) c e = (s, refl, le_ℚ_true s (of_ℤ c) (same_Some (le_ℚ s (of_ℤ c)) true e))
 
 pub equal_sum : (o : Option ℚ) (t : ℚ) → option_map (λ s. eq_ℚ t s) o ≡ Some true → o ≡ Some t
 equal_sum None t e = absurd cc
-equal_sum (Some s) t e = ap Some (sym (eq_ℚ_true t s (unwrapped (eq_ℚ t s) e)))
+equal_sum (Some s) t e = ap Some (sym (eq_ℚ_true t s (same_Some (eq_ℚ t s) true e)))
 
 pub positive_sum : (o : Option ℚ) → option_map is_positive o ≡ Some true → (s : ℚ) × (o ≡ Some s) × (of_ℤ (pos 0) <ℚ s)
 positive_sum None e = absurd cc
-positive_sum (Some s) e = (s, refl, lt_ℚ_true (of_ℤ (pos 0)) s (unwrapped (is_positive s) e))
+positive_sum (Some s) e = (s, refl, lt_ℚ_true (of_ℤ (pos 0)) s (same_Some (is_positive s) true e))
 
 pub same_number : (x y : ℚ) → Some (eq_ℚ x y) ≡ Some true → x ≡ y
-same_number x y e = eq_ℚ_true x y (unwrapped (eq_ℚ x y) e)
+same_number x y e = eq_ℚ_true x y (same_Some (eq_ℚ x y) true e)
 
 pub negative_number : (x : ℚ) → Some (is_negative x) ≡ Some true → x <ℚ of_ℤ (pos 0)
-negative_number x e = lt_ℚ_true x (of_ℤ (pos 0)) (unwrapped (is_negative x) e)
+negative_number x e = lt_ℚ_true x (of_ℤ (pos 0)) (same_Some (is_negative x) true e)
 
 -- ---- signs
 -- a vector of positive items has no negative value
@@ -77,7 +76,7 @@ positive_after m u x [] k n h = n
 positive_after m u x (i ∷ items) k n h = positive_after m u (cond (eqb i.index k) (value i.value) x) items k (by (eqb i.index k)) h.1
   where
     by : (b : Bool) → NonNegative (cond b (value i.value) x)
-    by true = <ℚ-≤ℚ (of_ℤ (pos 0)) (value i.value) (lt_ℚ_true (of_ℤ (pos 0)) (value i.value) (unwrapped (is_positive (value i.value)) h.0))
+    by true = <ℚ-≤ℚ (of_ℤ (pos 0)) (value i.value) (lt_ℚ_true (of_ℤ (pos 0)) (value i.value) (same_Some (is_positive (value i.value)) true h.0))
     by false = n
 
 pub positive_items : (m : Linear ℤ) (u : ℕ) (items : List Item) → AllHold (map (sign_step m u) items) → (k : ℕ) → NonNegative (entry_of items k)

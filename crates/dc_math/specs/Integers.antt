@@ -1,5 +1,5 @@
 -- The laws of whole numbers that std lacks: product and order.
-use Rattle.std.specs.Prelude.{◌≡◌, ℕ, ◌+◌, ◌*◌, ◌≤◌, ℤ, pos, negsuc, neg_ℤ, ◌+ℤ◌, ◌*ℤ◌, ◌≤ℤ◌, ◌<ℤ◌, ◌⊎◌, Bool, true, false, T}
+use Rattle.std.specs.Prelude.{◌≡◌, ℕ, ◌+◌, ◌*◌, ◌≤◌, ℤ, pos, negsuc, neg_ℤ, ◌+ℤ◌, ◌*ℤ◌, ◌≤ℤ◌, ◌<ℤ◌, ◌<◌, unsigned_abs, ◌⊎◌, Bool, true, false, T}
 use Rattle.std.proofs.Common.{refl, sym, subst, inl, inr, ◌∙◌, ap, ap₂, arith, zero, suc, mul-le-mul_right, le_of_mul-le-mul_right, zero-lt-suc}
 use Rattle.std.proofs.lemmas.Int.{ints}
 use lib.IntN.{*ℤ_comm}
@@ -29,10 +29,16 @@ pub +ℤ-*ℤ : (a b c : ℤ) → (a +ℤ b) *ℤ c ≡ a *ℤ c +ℤ b *ℤ c
 pub one-*ℤ : (a : ℤ) → pos 1 *ℤ a ≡ a
 one-*ℤ a = omega (arith, ints)
 
+pub *ℤ-one : (a : ℤ) → a *ℤ pos 1 ≡ a
+*ℤ-one a = omega (arith, ints)
+
 pub neg_ℤ_is : (a : ℤ) → neg_ℤ a ≡ negsuc 0 *ℤ a
 neg_ℤ_is a = omega (arith, ints)
 
 -- ---- order
+pub neg_ℤ-*ℤ : (a b : ℤ) → neg_ℤ a *ℤ b ≡ neg_ℤ (a *ℤ b)
+neg_ℤ-*ℤ a b = ap (λ z. z *ℤ b) (neg_ℤ_is a) ∙ *ℤ_assoc (negsuc 0) a b ∙ sym (neg_ℤ_is (a *ℤ b))
+
 pub 0≤ℤ-*ℤ : (a b : ℤ) → pos 0 ≤ℤ a → pos 0 ≤ℤ b → pos 0 ≤ℤ (a *ℤ b)
 0≤ℤ-*ℤ (pos m) (pos n) h k = omega (arith, ints)
 0≤ℤ-*ℤ (pos m) (negsuc n) h k = absurd (omega (arith, ints))
@@ -64,3 +70,13 @@ pub *ℤ_cancel : (a b c : ℤ) → pos 0 <ℤ c → a *ℤ c ≡ b *ℤ c → a
     let k = ≤ℤ-*ℤ_cancel a b c h (omega (arith, ints)) in
     let l = ≤ℤ-*ℤ_cancel b a c h (omega (arith, ints)) in
     omega (arith, ints)
+
+-- ---- sizes
+pub size-neg_ℤ : (a : ℤ) → unsigned_abs (neg_ℤ a) ≡ unsigned_abs a
+size-neg_ℤ a = omega (arith, ints)
+
+pub size-+ℤ : (a b : ℤ) → unsigned_abs (a +ℤ b) ≤ unsigned_abs a + unsigned_abs b
+size-+ℤ a b = omega (arith, ints)
+
+pub size_positive : (a : ℤ) → pos 1 ≤ℤ a → 0 < unsigned_abs a
+size_positive a h = omega (arith, ints)

@@ -1,5 +1,5 @@
 -- Each rational number has one fraction in lowest terms, so a fraction can be taken from it.
-use Rattle.std.specs.Prelude.{◌≡◌, ℕ, zero, suc, ◌*◌, ◌/◌, ◌<◌, ℤ, pos, negsuc, neg_ℤ, ◌*ℤ◌, ◌≤ℤ◌, unsigned_abs, [], ◌∷◌}
+use Rattle.std.specs.Prelude.{◌≡◌, ℕ, zero, suc, ◌*◌, ◌/◌, ℤ, pos, negsuc, neg_ℤ, ◌*ℤ◌, ◌≤ℤ◌, unsigned_abs, [], ◌∷◌}
 use Rattle.std.proofs.Common.{refl, sym, ◌∙◌, ap, ap₂, subst, arith}
 use Rattle.std.proofs.lemmas.Int.{ints, unsigned_abs-mul}
 use Rattle.std.proofs.Math.Nat.{dvd-mul_left, dvd_antisymm, div-mul_cancel, mul-div_cancel'}
@@ -9,7 +9,7 @@ use Rattle.std.proofs.Math.IntN.{ℤ_set}
 use native.Mathlib.Nat.{ℕ_set}
 use mathlib.Core.HLevel.{Σ_prop_path}
 use Rattle.dc_math.specs.Gcd.{gcd, gcd_is, gcd_positive, Coprime_parts, Coprime-gcd, gcd-Coprime, Coprime-swap, dvd_other}
-use Rattle.dc_math.specs.Integers.{≤ℤ-*ℤ_cancel}
+use Rattle.dc_math.specs.Integers.{≤ℤ-*ℤ_cancel, size_positive, neg_ℤ-*ℤ}
 use Rattle.dc_math.specs.WholeRing.{ring, reads, same_form}
 use Rattle.dc_math.specs.Rational.{ℚ, Fraction, IsSameFraction, ratio, ratio_same, same_ratio, ℚ_set, ℚ_ind, ℚ_lift, ℚ_lift-ratio}
 
@@ -53,16 +53,13 @@ part_abs (negsuc a) g = by (suc a / g)
     by zero = refl
     by (suc n) = refl
 
-neg_times : (x y : ℤ) → neg_ℤ x *ℤ y ≡ neg_ℤ (x *ℤ y)
-neg_times x y = ring (x ∷ y ∷ []) (λ ρ p q. simp (p, q, reads) (same_form _ _ _ refl))
-
 part_times : (z : ℤ) (g : ℕ) → g ∣ unsigned_abs z → part z g *ℤ pos g ≡ z
 unfolding part
 part_times (pos a) g h = ap pos (div-mul_cancel g h)
 part_times (negsuc a) g h = by (suc a / g) (div-mul_cancel g h)
   where
     by : (n : ℕ) → n * g ≡ suc a → neg_ℤ (pos n) *ℤ pos g ≡ negsuc a
-    by n e = neg_times (pos n) (pos g) ∙ ap (λ (k : ℕ). neg_ℤ (pos k)) e
+    by n e = neg_ℤ-*ℤ (pos n) (pos g) ∙ ap (λ (k : ℕ). neg_ℤ (pos k)) e
 
 lowest_of : (f : Fraction) → Lowest f
 lowest_of f =
@@ -74,7 +71,7 @@ lowest_of f =
       num = part f.num g;
       den = part f.den g;
       den_positive = positive (part f.den g) g (subst (λ z. pos 1 ≤ℤ z) (sym e₂) f.den_positive);
-      coprime = ap₂ gcd (part_abs f.num g) (part_abs f.den g) ∙ Coprime-gcd _ _ (Coprime_parts (unsigned_abs f.num) (unsigned_abs f.den) _ _ (gcd_positive _ _ (above f.den f.den_positive)) (sym (mul-div_cancel' g d.0)) (sym (mul-div_cancel' g d.1)));
+      coprime = ap₂ gcd (part_abs f.num g) (part_abs f.den g) ∙ Coprime-gcd _ _ (Coprime_parts (unsigned_abs f.num) (unsigned_abs f.den) _ _ (gcd_positive _ _ (size_positive f.den f.den_positive)) (sym (mul-div_cancel' g d.0)) (sym (mul-div_cancel' g d.1)));
       same = crossed f.num f.den (part f.num g) (part f.den g) (pos g) e₁ e₂;
     }
   where
@@ -82,9 +79,6 @@ lowest_of f =
     positive (pos zero) g h = absurd (omega (arith, ints))
     positive (pos (suc n)) g h = omega (arith, ints)
     positive (negsuc n) g h = absurd (omega (arith, ints))
-
-    above : (z : ℤ) → pos 1 ≤ℤ z → 0 < unsigned_abs z
-    above z h = omega (arith, ints)
 
     crossed : (a b m n g : ℤ) → m *ℤ g ≡ a → n *ℤ g ≡ b → a *ℤ n ≡ m *ℤ b
     crossed a b m n g h k = ap (λ z. z *ℤ n) (sym h) ∙ ring (m ∷ g ∷ n ∷ []) (λ ρ p q r. simp (p, q, r, reads) (same_form _ _ _ refl)) ∙ ap (λ z. m *ℤ z) k
@@ -106,7 +100,7 @@ reduced_coprime f = (lowest_of f).coprime
 fraction_of_parts : ℤ → (d : ℤ) × (pos 1 ≤ℤ d) → Fraction
 fraction_of_parts n d = record { num = n; den = d.0; den_positive = d.1 }
 
-at_least_prop : (d : ℤ) → IsProp (pos 1 ≤ℤ d)
+pub at_least_prop : (d : ℤ) → IsProp (pos 1 ≤ℤ d)
 at_least_prop d = hlevel T_prop
 
 fraction_path : (p q : Fraction) → p.num ≡ q.num → p.den ≡ q.den → p ≡ q

@@ -3,7 +3,7 @@ use Rattle.std.specs.Prelude.{◌≡◌, ◌≢◌, ◌⊎◌, ℤ, pos, neg_ℤ
 use Rattle.std.proofs.Common.{refl, sym, ap, ◌∙◌, arith, subst, subst₂, ⊎_elim}
 use Rattle.std.proofs.lemmas.Int.{ints}
 use Rattle.dc_math.specs.Integers.{≤ℤ_or, *ℤ_assoc}
-use Rattle.dc_math.specs.Rational.{ℚ, Fraction, fraction_of, ratio, ratio_same, ratio_at_most, at_most_ratio, ratio-mul, ratio-neg, of_ℤ_is, ◌+ℚ◌, ◌*ℚ◌, ◌-ℚ◌, neg_ℚ, of_ℤ, ◌≤ℚ◌, ◌<ℚ◌, <ℚ-≤ℚ, <ℚ-not, ≤ℚ_refl, ≤ℚ_antisymm, ≤ℚ_or, ≤ℚ-sub, NonNegative, NonNegative-*ℚ}
+use Rattle.dc_math.specs.Rational.{ℚ, Fraction, fraction_of, ratio, ratio_same, ratio_at_most, at_most_ratio, ratio-mul, ratio-neg, of_ℤ_is, ◌+ℚ◌, ◌*ℚ◌, ◌-ℚ◌, neg_ℚ, of_ℤ, ◌≤ℚ◌, ◌<ℚ◌, <ℚ-≤ℚ, <ℚ-not, ≤ℚ_refl, ≤ℚ_antisymm, ≤ℚ_or, ≤ℚ-sub, NonNegative, NonNegative-*ℚ, *ℚ-zero, zero-+ℚ}
 use Rattle.dc_math.specs.RationalRing.{ring, reads, read_nat, same_form, linear₁, linear₂, ≤ℚ_trans, *ℚ-≤ℚ}
 use Rattle.dc_math.specs.Inverse.{inverse, inverse_unique, *ℚ-inverse}
 use Rattle.dc_math.specs.Signs.{of_ℤ-≤, of_ℤ-≤_back, inverse_non_negative}
@@ -77,10 +77,7 @@ inverse_at_least x h = inverse_non_negative x (inverse x) (<ℚ-≤ℚ _ _ h) (*
 
 pub inverse_positive : (x : ℚ) → Positive x → Positive (inverse x)
 inverse_positive x h = NonNegative_positive (inverse x) (inverse_at_least x h)
-    (λ e. one_nonzero (sym (*ℚ-inverse_positive x h) ∙ ap (λ i. x *ℚ i) e ∙ zero_right x))
-  where
-    zero_right : (x : ℚ) → x *ℚ of_ℤ (pos 0) ≡ of_ℤ (pos 0)
-    zero_right x = ring (x ∷ []) (λ ρ p. simp (p, read_nat ρ, reads) (same_form _ _ _ refl))
+    (λ e. one_nonzero (sym (*ℚ-inverse_positive x h) ∙ ap (λ i. x *ℚ i) e ∙ *ℚ-zero x))
 
 pub <ℚ-sub : (x y : ℚ) → x <ℚ y → Positive (y -ℚ x)
 <ℚ-sub x y h = NonNegative_positive (y -ℚ x) (≤ℚ-sub x y (<ℚ-≤ℚ x y h))
@@ -114,6 +111,12 @@ ratio_quotient p =
 
 pub of_ℤ-neg_ℤ : (z : ℤ) → of_ℤ (neg_ℤ z) ≡ neg_ℚ (of_ℤ z)
 of_ℤ-neg_ℤ z = rw (of_ℤ_is (neg_ℤ z), of_ℤ_is z) (sym (ratio-neg (fraction_of z) ∙ ratio_same _ _ refl))
+
+pub *ℚ-neg_ℚ : (x y : ℚ) → x *ℚ neg_ℚ y ≡ neg_ℚ (x *ℚ y)
+*ℚ-neg_ℚ x y = ring (x ∷ y ∷ []) (λ ρ p q. simp (p, q, reads) (same_form _ _ _ refl))
+
+pub zero-minus : (x : ℚ) → of_ℤ (pos 0) -ℚ x ≡ neg_ℚ x
+zero-minus x = zero-+ℚ (neg_ℚ x)
 
 pub inverse-neg_ℚ : (x : ℚ) → x ≢ of_ℤ (pos 0) → inverse (neg_ℚ x) ≡ neg_ℚ (inverse x)
 inverse-neg_ℚ x n = sym (inverse_unique (neg_ℚ x) (neg_ℚ (inverse x)) (inverse (neg_ℚ x)) (both x (inverse x) (*ℚ-inverse x n)) (*ℚ-inverse (neg_ℚ x) (λ e. n (back x e))))

@@ -1,6 +1,6 @@
 -- Rational numbers: fractions of whole numbers, where equal fractions are one number.
 use Rattle.std.specs.Prelude.{◌≡◌, zero, suc, ℤ, pos, negsuc, neg_ℤ, ◌+ℤ◌, ◌-ℤ◌, ◌*ℤ◌, ◌≤ℤ◌, ◌<ℤ◌, Bool, true, false, T, not, [], ◌∷◌, ◌⊎◌}
-use Rattle.std.proofs.Common.{⊎_elim, T_not, refl, sym, arith, subst, inl, inr}
+use Rattle.std.proofs.Common.{⊎_elim, T_not, refl, sym, ◌∙◌, arith, subst, inl, inr}
 use Rattle.std.proofs.lemmas.Int.{ints}
 use mathlib.Core.Quot.{Quot, mk, sound, ind, lift, Quot-set}
 use mathlib.Core.Bool.{Bool-set}
@@ -177,6 +177,15 @@ unfolding of_ℤ
 zero-*ℚ = equal₁ (λ x. ratio (fraction_of (pos 0)) *ℚ x) (λ x. ratio (fraction_of (pos 0))) (λ p. rw ratio-mul (ratio_same _ _ (let x = var 0 in let y = var 1 in
     by_form (p.num ∷ p.den ∷ []) ((nat 0 ⊗ x) ⊗ nat 1) (nat 0 ⊗ (nat 1 ⊗ y)) refl)))
 
+pub +ℚ-zero : (x : ℚ) → x +ℚ of_ℤ (pos 0) ≡ x
++ℚ-zero x = +ℚ_comm x (of_ℤ (pos 0)) ∙ zero-+ℚ x
+
+pub *ℚ-one : (x : ℚ) → x *ℚ of_ℤ (pos 1) ≡ x
+*ℚ-one x = *ℚ_comm x (of_ℤ (pos 1)) ∙ one-*ℚ x
+
+pub *ℚ-zero : (x : ℚ) → x *ℚ of_ℤ (pos 0) ≡ of_ℤ (pos 0)
+*ℚ-zero x = *ℚ_comm x (of_ℤ (pos 0)) ∙ zero-*ℚ x
+
 pub neg_ℚ_is : (x : ℚ) → neg_ℚ x ≡ of_ℤ (negsuc 0) *ℚ x
 unfolding of_ℤ
 neg_ℚ_is = equal₁ (λ x. neg_ℚ x) (λ x. ratio (fraction_of (negsuc 0)) *ℚ x) (λ p. rw (ratio-neg, ratio-mul) (ratio_same _ _ (let x = var 0 in let y = var 1 in
@@ -329,7 +338,7 @@ num_non_negative : (p : Fraction) → NonNegative (ratio p) → pos 0 ≤ℤ p.n
 unfolding of_ℤ
 num_non_negative p h = let k = at_most_ratio (fraction_of (pos 0)) p h in omega (arith, ints)
 
-non_negative_num : (p : Fraction) → pos 0 ≤ℤ p.num → NonNegative (ratio p)
+pub non_negative_num : (p : Fraction) → pos 0 ≤ℤ p.num → NonNegative (ratio p)
 unfolding of_ℤ
 non_negative_num p h = ratio_at_most (fraction_of (pos 0)) p (omega (arith, ints))
 

@@ -1,18 +1,12 @@
 -- The rational numbers as an ordered field, so that what is shown for any such field holds of them.
 use Rattle.std.specs.Prelude.{◌≡◌, pos, [], ◌∷◌}
-use Rattle.std.proofs.Common.{refl, sym, ◌∙◌, subst}
-use Rattle.dc_math.specs.Rational.{ℚ, ◌+ℚ◌, ◌*ℚ◌, neg_ℚ, of_ℤ, le_ℚ, ◌≤ℚ◌, <ℚ-≤ℚ, ≤ℚ_antisymm, ≤ℚ-sub, sub-≤ℚ, NonNegative, NonNegative-+ℚ, NonNegative-*ℚ, +ℚ_assoc, +ℚ_comm, *ℚ_assoc, *ℚ_comm, *ℚ-+ℚ, zero-+ℚ, one-*ℚ}
+use Rattle.std.proofs.Common.{refl, sym, subst}
+use Rattle.dc_math.specs.Rational.{ℚ, ◌+ℚ◌, ◌*ℚ◌, neg_ℚ, of_ℤ, le_ℚ, ◌≤ℚ◌, <ℚ-≤ℚ, ≤ℚ_antisymm, ≤ℚ-sub, sub-≤ℚ, NonNegative, NonNegative-+ℚ, NonNegative-*ℚ, +ℚ_assoc, +ℚ_comm, *ℚ_assoc, *ℚ_comm, *ℚ-+ℚ, zero-+ℚ, +ℚ-zero, *ℚ-one}
 use Rattle.dc_math.specs.RationalRing.{ring, reads, read_nat, same_form}
 use Rattle.dc_math.specs.Inverse.{inverse, *ℚ-inverse}
 use Rattle.dc_math.specs.Order.{one_nonzero}
 use Rattle.dc_math.specs.Tests.{le_ℚ-true, le_ℚ_true, le_ℚ_false, le_ℚ-sub}
 use Rattle.dc_math.specs.Field.{Field}
-
-pub +ℚ-zero : (x : ℚ) → x +ℚ of_ℤ (pos 0) ≡ x
-+ℚ-zero x = +ℚ_comm x (of_ℤ (pos 0)) ∙ zero-+ℚ x
-
-pub *ℚ-one : (x : ℚ) → x *ℚ of_ℤ (pos 1) ≡ x
-*ℚ-one x = *ℚ_comm x (of_ℤ (pos 1)) ∙ one-*ℚ x
 
 pub +ℚ-neg_ℚ : (x : ℚ) → x +ℚ neg_ℚ x ≡ of_ℤ (pos 0)
 +ℚ-neg_ℚ x = ring (x ∷ []) (λ ρ p. simp (p, read_nat ρ, reads) (same_form _ _ _ refl))

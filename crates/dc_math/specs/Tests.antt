@@ -19,7 +19,7 @@ is_positive x = lt_ℚ (of_ℤ (pos 0)) x
 abbrev pub is_zero : ℚ → Bool
 is_zero x = eq_ℚ x (of_ℤ (pos 0))
 
-to_true : (b : Bool) → T b → b ≡ true
+pub to_true : (b : Bool) → T b → b ≡ true
 to_true true t = refl
 to_true false t = absurd t
 

@@ -11,7 +11,8 @@ use Rattle.dc_math.specs.Rational.{ℚ, ◌*ℚ◌, ◌≤ℚ◌, of_ℤ}
 use Rattle.dc_math.specs.Sums.{sum_ℚ, sum_ℚ_same}
 use Rattle.dc_lp.specs.Linear.{Linear, combined}
 use Rattle.dc_affine.specs.declared.atom.Atom.{Atom}
-use Rattle.dc_affine.specs.Atoms.{AllFit, IsAtom}
+use Rattle.dc_affine.specs.Atoms.{IsAtom}
+use Rattle.dc_affine.proofs.Within.{take_fits}
 use Rattle.dc_system.specs.declared.edges.Edge.{Edge}
 use Rattle.dc_system.specs.Shapes.{AtomSkips}
 use Rattle.dc_points.specs.Points.{Point, left_at, MeetsAt}
@@ -129,10 +130,6 @@ live-cut k atoms e y h = record {
 }
 
 -- ---- sizes
-fit-take : (k : ℕ) (cs : List ℤ) → AllFit cs → AllFit (take k cs)
-fit-take zero cs h = tt
-fit-take (suc k) [] h = tt
-fit-take (suc k) (c ∷ cs) h = (h.0, fit-take k cs h.1)
 
 wider : (n : ℕ) (b : Bool) (atoms : List Atom) → AllByRecursion (IsAtom n) atoms → AllByRecursion (IsAtom (cond b (n + 1) n)) atoms
 wider n b [] h = tt
@@ -142,7 +139,7 @@ wider n false (a ∷ atoms) h = (h.0, wider n false atoms h.1)
 cut_atoms : (k m : ℕ) (gs : List Atom) → AllByRecursion (IsAtom m) gs → AllByRecursion (IsAtom k) (map (cut_to k) gs)
 cut_atoms k m [] h = tt
 cut_atoms k m (g ∷ gs) h =
-    (record { few = omega (arith, length-take k g.coefs); coefs_within = fit-take k g.coefs h.0.coefs_within; constant_within = h.0.constant_within }, cut_atoms k m gs h.1)
+    (record { few = omega (arith, length-take k g.coefs); coefs_within = take_fits k g.coefs h.0.coefs_within; constant_within = h.0.constant_within }, cut_atoms k m gs h.1)
 
 pub cuts_are_atoms : CutsAreAtoms
 cuts_are_atoms n e atoms h k =

@@ -20,6 +20,7 @@ use Rattle.dc_system.specs.Shapes.{Skips, IsForm, IsEdge}
 use Rattle.dc_system.proofs.Shape.{units_at}
 use Rattle.dc_system.proofs.Skipping.{exponent, no_coef_at}
 use Rattle.dc_system.proofs.Sums.{product_small, sum_small}
+use Rattle.dc_system.proofs.Wider.{unit_last}
 use Rattle.dc_points.specs.Points.{Point, left_at}
 use Rattle.dc_points.proofs.Whole.{atoms_are_forms}
 use Rattle.dc_families.specs.Moves.{edge_places, form_after}
@@ -41,7 +42,7 @@ forms_have_places n e row = by e.any
 coef_small : (m : ℕ) (v : Polynomial) (u : Exponents) → IsForm m v → unsigned_abs (coef v.terms u) ≤ most
 coef_small m v u h = coef_fits v.terms u h.kind.in_order h.narrow.fits
 
-coef_at-small : (m : ℕ) (cs : List ℤ) (vs : List Polynomial) (u : Exponents) → AllFit cs → AllByRecursion (IsForm m) vs → unsigned_abs (coef_at cs vs u) ≤ length cs * (most * most)
+pub coef_at-small : (m : ℕ) (cs : List ℤ) (vs : List Polynomial) (u : Exponents) → AllFit cs → AllByRecursion (IsForm m) vs → unsigned_abs (coef_at cs vs u) ≤ length cs * (most * most)
 coef_at-small m [] vs u h k = omega arith
 coef_at-small m (c ∷ cs) [] u h k = omega arith
 coef_at-small m (c ∷ cs) (v ∷ vs) u h k =
@@ -100,9 +101,6 @@ forms_are_light n e row l h k fit =
     small k a b = omega arith
 
 -- ---- the chosen value of an edge that chooses none
-last_one : (n : ℕ) → exponent (unit_at (suc n) n) n ≡ 1
-last_one zero = refl
-last_one (suc n) = last_one n
 
 one_gone : (n : ℕ) (v : Polynomial) (u : Exponents) → exponent u n ≡ 1 → Skips n v → coef v.terms u ≡ pos 0
 one_gone n v u e h =
@@ -126,7 +124,7 @@ all_gone n (c ∷ cs) (v ∷ vs) u e h =
 last_gone : (n : ℕ) (e : Edge) (row : List ℤ) → IsEdge n e → e.any ≡ false → slice_index_or (row_after_of n e row).coefs n (pos 0) ≡ pos 0
 last_gone n e row h t =
     units_at (coef_at row e.update) (n + 1) n (omega arith)
-    ∙ all_gone n row e.update (unit_at (n + 1) n) (ap (λ m. exponent (unit_at m n) n) (add-one n) ∙ last_one n) (h.unchosen t).update
+    ∙ all_gone n row e.update (unit_at (n + 1) n) (ap (λ m. exponent (unit_at m n) n) (add-one n) ∙ unit_last n) (h.unchosen t).update
 
 -- an atom after the edge, at the places of the edge
 pub left_after : (n : ℕ) (e : Edge) (a : Atom) (p : Point) → IsEdge n e

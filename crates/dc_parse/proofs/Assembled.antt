@@ -1,8 +1,7 @@
 -- From the parts of a parser's answer to the outcome of the text.
-use Rattle.std.proofs.Common.{◌≡◌, ◌⊎◌, inl, inr, ℕ, ◌<◌, ◌≤◌, Bool, true, false, ◌&&◌, leb, List, [], ◌∷◌, ◌++◌, suc, length, map, refl, sym, ap, ap₂, ◌∙◌, subst, arith, length-append, Some, None, Result}
+use Rattle.std.proofs.Common.{◌≡◌, ◌⊎◌, inl, inr, ℕ, ◌≤◌, true, false, List, [], length, refl, sym, ap, ap₂, ◌∙◌, subst, Some, None, Result}
 use Rattle.std.specs.Prelude.{IsErrAnd, IfErr}
 use Rattle.std.proofs.lemmas.Result.{err_from_is_err_and}
-use Rattle.std.proofs.lemmas.Bool.Decides.{nat_tests}
 use Rattle.dc_tokens.specs.declared.token.Token.{Token}
 use Rattle.dc_tokens.specs.declared.token.LexFault.{LexFault}
 use Rattle.dc_tokens.specs.Texts.{Tokens, Fails}
@@ -18,7 +17,7 @@ use Rattle.dc_affine.specs.declared.form.FormFault.{FormFault}
 use Rattle.dc_affine.specs.declared.form.FormFault.TheVariants as g
 use Rattle.dc_affine.specs.Forms.{IsCause}
 use Rattle.dc_affine.specs.Atoms.{dnf_fault, conjunctions_of, cond_is_below}
-use Rattle.dc_program.specs.Limits.{all_limited, cond_literals_fit, cond_operators, cond_is_limited}
+use Rattle.dc_program.specs.Limits.{cond_literals_fit, cond_operators, cond_is_limited}
 use Rattle.dc_parse.specs.declared.fault.Fault.{Fault}
 use Rattle.dc_parse.specs.declared.fault.Kind.TheVariants as k
 use Rattle.dc_descent.specs.declared.sources.Source.{Source}
@@ -30,6 +29,7 @@ use Rattle.dc_descent.specs.Sources as sources
 use Rattle.std.specs.declared.option.Option.{Option}
 use Rattle.std.specs.Option.{option_map}
 use Rattle.std.specs.List.{AllByRecursion}
+use Rattle.std.proofs.lemmas.Bool.{and_parts, leb-true}
 use Rattle.dc_parse.specs.Faults.{fault, kind_of, raised, names_fault, used_fault, verdict_fault}
 use Rattle.dc_descent.specs.Scopes.{spelled, place_in}
 use Rattle.dc_descent.specs.Sources.{Parts, parts_of, declared, names_of, body_of, IsSource}
@@ -215,13 +215,6 @@ module _ (names : List (List ℕ)) (text : List ℕ) (ts : List Token) (a : Tree
       (ap says (c ∙ ap (λ z. conjunctions_of z x false) e)
       ∙ sym (judged_later n ∙ ap (λ z. first_of (form_at (first_at a) z) (says (conjunctions_of (length names) x false))) (ap (λ z. dnf_fault z x false) (sym e) ∙ q)))
 
-  second_true : (b c : Bool) → (b && c) ≡ true → c ≡ true
-  second_true true c h = h
-  second_true false c h = absurd cc
-
-  from_leb : (n : ℕ) → leb n 64 ≡ true → n ≤ 64
-  from_leb n h = grind (arith, nat_tests)
-
   pub few_operators : ToldKnown names text ts a x → cond_operators x ≤ 64
   few_operators n =
-      from_leb (cond_operators x) (second_true (cond_literals_fit x) _ (ap cond_is_limited (sym n.told.said) ∙ (good_told n).limited))
+      leb-true (cond_operators x) 64 (and_parts (cond_literals_fit x) _ (ap cond_is_limited (sym n.told.said) ∙ (good_told n).limited)).1

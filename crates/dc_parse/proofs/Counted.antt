@@ -1,57 +1,16 @@
 -- Kinds of tokens, and how many operators stand among tokens.
-use Rattle.std.proofs.Common.{◌≡◌, ℕ, ◌+◌, ◌≤◌, ◌<◌, Bool, true, false, not, ◌||◌, nat_eq, List, [], ◌∷◌, ◌++◌, get_or, refl, sym, ap, ◌∙◌, subst, arith}
-use Rattle.std.proofs.lemmas.Bool.Decides.{nat_tests}
+use Rattle.std.proofs.Common.{◌≡◌, ℕ, ◌+◌, Bool, true, false, not, ◌||◌, List, [], ◌∷◌, ◌++◌, refl, subst, arith}
 use Rattle.std.specs.List.{AllByRecursion}
+use Rattle.std.proofs.lemmas.Bool.{not-true}
 use Rattle.dc_tokens.specs.declared.token.TokenKind.{TokenKind}
 use Rattle.dc_tokens.specs.declared.token.TokenKind.TheVariants as k
 use Rattle.dc_tokens.specs.declared.token.Token.{Token}
 use Rattle.dc_grammar.specs.Grammar.{has}
-use Rattle.dc_grammar.specs.Kinds.{is, number, kinds}
+use Rattle.dc_grammar.specs.Kinds.{is}
 use Rattle.dc_grammar.specs.Depth as depth
+use Rattle.dc_grammar.proofs.AllKinds.{same_kind}
 
 -- ---- a kind is known by its number
-
-back : (j : TokenKind) → get_or kinds (number j) k.Name ≡ j
-back k.Name = refl
-back k.Number = refl
-back k.Proc = refl
-back k.Var = refl
-back k.Skip = refl
-back k.Tick = refl
-back k.Any = refl
-back k.Assume = refl
-back k.If = refl
-back k.Else = refl
-back k.While = refl
-back k.True = refl
-back k.False = refl
-back k.LParen = refl
-back k.RParen = refl
-back k.LBrace = refl
-back k.RBrace = refl
-back k.LBracket = refl
-back k.RBracket = refl
-back k.Comma = refl
-back k.Semi = refl
-back k.Assign = refl
-back k.Eq = refl
-back k.Ne = refl
-back k.Lt = refl
-back k.Le = refl
-back k.Gt = refl
-back k.Ge = refl
-back k.Plus = refl
-back k.Minus = refl
-back k.Star = refl
-back k.Bang = refl
-back k.And = refl
-back k.Or = refl
-
-same_number : (m n : ℕ) → nat_eq m n ≡ true → m ≡ n
-same_number m n h = grind (arith, nat_tests)
-
-pub is_same : (i j : TokenKind) → is i j ≡ true → i ≡ j
-is_same i j h = sym (back i) ∙ (ap (λ n. get_or kinds n k.Name) (same_number (number i) (number j) h) ∙ back j)
 
 -- each kind of a list passes a test
 abbrev pub Pass : (TokenKind → Bool) → List TokenKind → Type 0
@@ -59,7 +18,7 @@ Pass p [] = Unit {0}
 Pass p (j ∷ js) = (p j ≡ true) × Pass p js
 
 first_or : (p : TokenKind → Bool) (i j : TokenKind) (b c : Bool) → is i j ≡ b → p i ≡ true → b || c ≡ true → (c ≡ true → p j ≡ true) → p j ≡ true
-first_or p i j true c e a h more = subst (λ z. p z ≡ true) (is_same i j e) a
+first_or p i j true c e a h more = subst (λ z. p z ≡ true) (same_kind i j e) a
 first_or p i j false c e a h more = more h
 
 pub has_passes : (p : TokenKind → Bool) (js : List TokenKind) (j : TokenKind) → Pass p js → has is js j ≡ true → p j ≡ true
@@ -114,9 +73,5 @@ pub record Stands (t : Token) : Type 0 where
 pub operates : (js : List TokenKind) (t : Token) → Pass is_operator js → Pass is_inside js → has is js t.kind ≡ true → Operates t
 operates js t a b h = record { counts = has_passes is_operator js t.kind a h; inside = has_passes is_inside js t.kind b h }
 
-not_true : (b : Bool) → not b ≡ true → b ≡ false
-not_true true h = absurd cc
-not_true false h = refl
-
 pub stands : (js : List TokenKind) (t : Token) → Pass (λ j. not (is_operator j)) js → Pass is_inside js → has is js t.kind ≡ true → Stands t
-stands js t a b h = record { counts = not_true (is_operator t.kind) (has_passes (λ j. not (is_operator j)) js t.kind a h); inside = has_passes is_inside js t.kind b h }
+stands js t a b h = record { counts = not-true (is_operator t.kind) (has_passes (λ j. not (is_operator j)) js t.kind a h); inside = has_passes is_inside js t.kind b h }

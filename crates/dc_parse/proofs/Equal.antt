@@ -1,23 +1,18 @@
 -- Equality of bytes is an equivalence.
-use Rattle.std.proofs.Common.{◌≡◌, ℕ, Bool, true, false, List, refl, sym, ◌∙◌}
-use Rattle.std.specs.Cmp.{IsEquivalence}
+use Rattle.std.proofs.Common.{◌≡◌, ℕ, true, List, refl, sym, ◌∙◌}
+use Rattle.std.specs.Cmp.{IsEquivalence, both_ways}
 use Rattle.std.specs.Str.{bytes_eq}
 use Rattle.std.proofs.lemmas.Slice.Eq.{bytes_eq-Decides}
 
-equal : (x y : List ℕ) → bytes_eq x y ≡ true → x ≡ y
+pub equal : (x y : List ℕ) → bytes_eq x y ≡ true → x ≡ y
 equal x y h = (bytes_eq-Decides x y).0 h
 
 tested : (x y : List ℕ) → x ≡ y → bytes_eq x y ≡ true
 tested x y h = (bytes_eq-Decides x y).1 h
 
-same_tests : (b c : Bool) → (b ≡ true → c ≡ true) → (c ≡ true → b ≡ true) → b ≡ c
-same_tests true c f g = sym (f refl)
-same_tests false true f g = g refl
-same_tests false false f g = refl
-
 pub bytes_equivalence : IsEquivalence bytes_eq
 bytes_equivalence = record {
   refl = λ x. tested x x refl;
-  symm = λ x y. same_tests (bytes_eq x y) (bytes_eq y x) (λ h. tested y x (sym (equal x y h))) (λ h. tested x y (sym (equal y x h)));
-  congr = λ x y z e. same_tests (bytes_eq x z) (bytes_eq y z) (λ h. tested y z (sym (equal x y e) ∙ equal x z h)) (λ h. tested x z (equal x y e ∙ equal y z h));
+  symm = λ x y. both_ways (bytes_eq x y) (bytes_eq y x) (λ h. tested y x (sym (equal x y h))) (λ h. tested x y (sym (equal y x h)));
+  congr = λ x y z e. both_ways (bytes_eq x z) (bytes_eq y z) (λ h. tested y z (sym (equal x y e) ∙ equal x z h)) (λ h. tested x z (equal x y e ∙ equal y z h));
 }

@@ -1,14 +1,15 @@
 -- What is known of an expression or a condition from the tokens that derive it.
-use Rattle.std.proofs.Common.{◌≡◌, ℕ, ◌+◌, ◌<◌, ◌≤◌, Bool, true, false, ◌&&◌, ◌||◌, ltb, leb, List, [], ◌∷◌, ◌++◌, refl, sym, ap, ap₂, ◌∙◌, subst, append_assoc, append-nil, arith, if◌then◌else◌}
+use Rattle.std.proofs.Common.{◌≡◌, ℕ, ◌+◌, ◌<◌, ◌≤◌, Bool, true, false, ◌&&◌, ◌||◌, leb, List, [], ◌∷◌, ◌++◌, refl, sym, ap, ap₂, ◌∙◌, subst, append_assoc, append-nil, arith, if◌then◌else◌}
 use Rattle.std.proofs.lemmas.Bool.Decides.{nat_tests}
 use Rattle.std.specs.List.{AllByRecursion}
-use Rattle.dc_tokens.specs.declared.token.TokenKind.{TokenKind}
+use Rattle.std.proofs.lemmas.Bool.{and_from, lt-ltb}
 use Rattle.dc_tokens.specs.declared.token.TokenKind.TheVariants as k
 use Rattle.dc_tokens.specs.declared.token.Token.{Token}
 use Rattle.dc_grammar.specs.Grammar.{has, one, tok, ref, seq, many, Tree, Derives, token, name, both, first, second, no_more, one_more}
 use Rattle.dc_grammar.specs.Kinds.{is}
 use Rattle.dc_grammar.specs.Language as lang
 use Rattle.dc_grammar.specs.Language.{language}
+use Rattle.dc_grammar.proofs.AllKinds.{same_kind}
 use Rattle.dc_syntax.specs.declared.tree.Expr.{Expr}
 use Rattle.dc_syntax.specs.declared.tree.Expr.TheVariants as e
 use Rattle.dc_syntax.specs.declared.tree.Rel.{Rel}
@@ -18,7 +19,7 @@ use Rattle.dc_affine.specs.Forms.{below_step, is_below}
 use Rattle.dc_affine.specs.Atoms.{cond_below_step, cond_is_below}
 use Rattle.dc_program.specs.Limits.{literals_step, literals_fit, cond_literals_step, cond_literals_fit, operators_step, operators, cond_operators_step, cond_operators}
 use Rattle.dc_descent.specs.Trees.{unary_of, term_of, factors, expr_of, summands, rel_of, fact_of, conj_of, conjuncts, cond_of, disjuncts}
-use Rattle.dc_parse.proofs.Counted.{is_same, each_both, each_front, each_rest, Inside, one_if, ops, ops_both, Operates, Stands, operates, stands}
+use Rattle.dc_parse.proofs.Counted.{each_both, each_front, each_rest, Inside, one_if, ops, ops_both, Operates, Stands, operates, stands}
 use Rattle.dc_parse.proofs.Folds.{at_num, at_var, at_neg, at_add, at_sub, at_mul, at_true, at_false, at_cmp, at_not, at_and, at_or}
 
 -- a name has a place below n, and a number is at most 2147483647
@@ -41,15 +42,8 @@ pub record CondFacts (n : ℕ) (p : Token → ℕ) (u : List Token) (x : Cond) :
   pub fits : AllByRecursion Small u → cond_literals_fit x ≡ true
   pub below : AllByRecursion (Known n p) u → cond_is_below n x ≡ true
 
-pub both_true : (a b : Bool) → a ≡ true → b ≡ true → (a && b) ≡ true
-both_true true b g h = h
-both_true false b g h = absurd cc
-
 fits_leb : (v : ℕ) → v ≤ 2147483647 → leb v 2147483647 ≡ true
 fits_leb v h = grind (arith, nat_tests)
-
-below_ltb : (v n : ℕ) → v < n → ltb v n ≡ true
-below_ltb v n h = grind (arith, nat_tests)
 
 one_stands : (t : Token) → Stands t → 0 ≡ ops (t ∷ [])
 one_stands t s = sym (ap (λ b. one_if b + 0) s.counts)
@@ -91,7 +85,7 @@ module _ (n : ℕ) (p : Token → ℕ) where
   or_first false b e h = absurd cc
 
   name_is : (t : Token) → has is (k.Name ∷ []) t.kind ≡ true → t.kind ≡ k.Name
-  name_is t h = sym (is_same k.Name t.kind (or_first (is k.Name t.kind) false refl h))
+  name_is t h = sym (same_kind k.Name t.kind (or_first (is k.Name t.kind) false refl h))
 
   var_facts : (t : Token) → has is (k.Name ∷ []) t.kind ≡ true → ExprFacts n p (t ∷ []) (e.Var (p t))
   var_facts t h =
@@ -100,7 +94,7 @@ module _ (n : ℕ) (p : Token → ℕ) where
         inside = (s.inside, tt);
         counts = at_var ℕ operators_step (p t) ∙ one_stands t s;
         fits = λ g. at_var Bool literals_step (p t);
-        below = λ g. at_var Bool (below_step n) (p t) ∙ below_ltb (p t) n (g.0 (name_is t h));
+        below = λ g. at_var Bool (below_step n) (p t) ∙ lt-ltb (p t) n (g.0 (name_is t h));
       }
 
   neg_facts : (t : Token) (u : List Token) (x : Expr) → Operates t → ExprFacts n p u x → ExprFacts n p (t ∷ u) (e.Neg x)
@@ -117,8 +111,8 @@ module _ (n : ℕ) (p : Token → ℕ) where
   pair_facts t u v x y z o f g a b d = record {
     inside = inside_between u t v f.inside o g.inside;
     counts = a ∙ (ap₂ (λ i j. i + (1 + j)) f.counts g.counts ∙ sym (ops_between u t v o));
-    fits = λ h. b ∙ both_true _ _ (f.fits (each_front Small u (t ∷ v) h)) (g.fits (each_rest Small u (t ∷ v) h).1);
-    below = λ h. d ∙ both_true _ _ (f.below (each_front (Known n p) u (t ∷ v) h)) (g.below (each_rest (Known n p) u (t ∷ v) h).1);
+    fits = λ h. b ∙ and_from _ _ (f.fits (each_front Small u (t ∷ v) h)) (g.fits (each_rest Small u (t ∷ v) h).1);
+    below = λ h. d ∙ and_from _ _ (f.below (each_front (Known n p) u (t ∷ v) h)) (g.below (each_rest (Known n p) u (t ∷ v) h).1);
   }
 
   paren_facts : (s t : Token) (u : List Token) (x : Expr) → Stands s → Stands t → ExprFacts n p u x → ExprFacts n p (s ∷ (u ++ t ∷ [])) x
@@ -196,8 +190,8 @@ module _ (n : ℕ) (p : Token → ℕ) where
   cmp_facts t r u v x y s f g = record {
     inside = each_both Inside u (t ∷ v) f.inside (s.inside, g.inside);
     counts = at_cmp ℕ cond_operators_step x r y ∙ (ap₂ ◌+◌ f.counts g.counts ∙ sym (ops_apart u t v s));
-    fits = λ h. at_cmp Bool cond_literals_step x r y ∙ both_true _ _ (f.fits (each_front Small u (t ∷ v) h)) (g.fits (each_rest Small u (t ∷ v) h).1);
-    below = λ h. at_cmp Bool (cond_below_step n) x r y ∙ both_true _ _ (f.below (each_front (Known n p) u (t ∷ v) h)) (g.below (each_rest (Known n p) u (t ∷ v) h).1);
+    fits = λ h. at_cmp Bool cond_literals_step x r y ∙ and_from _ _ (f.fits (each_front Small u (t ∷ v) h)) (g.fits (each_rest Small u (t ∷ v) h).1);
+    below = λ h. at_cmp Bool (cond_below_step n) x r y ∙ and_from _ _ (f.below (each_front (Known n p) u (t ∷ v) h)) (g.below (each_rest (Known n p) u (t ∷ v) h).1);
   }
 
   not_facts : (t : Token) (u : List Token) (x : Cond) → Operates t → CondFacts n p u x → CondFacts n p (t ∷ u) (c.Not x)
@@ -214,8 +208,8 @@ module _ (n : ℕ) (p : Token → ℕ) where
   both_facts t u v x y z o f g a b d = record {
     inside = inside_between u t v f.inside o g.inside;
     counts = a ∙ (ap₂ (λ i j. i + (1 + j)) f.counts g.counts ∙ sym (ops_between u t v o));
-    fits = λ h. b ∙ both_true _ _ (f.fits (each_front Small u (t ∷ v) h)) (g.fits (each_rest Small u (t ∷ v) h).1);
-    below = λ h. d ∙ both_true _ _ (f.below (each_front (Known n p) u (t ∷ v) h)) (g.below (each_rest (Known n p) u (t ∷ v) h).1);
+    fits = λ h. b ∙ and_from _ _ (f.fits (each_front Small u (t ∷ v) h)) (g.fits (each_rest Small u (t ∷ v) h).1);
+    below = λ h. d ∙ and_from _ _ (f.below (each_front (Known n p) u (t ∷ v) h)) (g.below (each_rest (Known n p) u (t ∷ v) h).1);
   }
 
   bracket_facts : (s t : Token) (u : List Token) (x : Cond) → Stands s → Stands t → CondFacts n p u x → CondFacts n p (s ∷ (u ++ t ∷ [])) x

@@ -1,6 +1,7 @@
 -- The faults of a statement and its variables, by its outermost layer.
-use Rattle.std.proofs.Common.{◌≡◌, ℕ, zero, suc, ◌+◌, ◌<◌, ◌≤◌, Bool, true, false, ◌&&◌, List, [], ◌∷◌, ◌++◌, map, length, get_or, refl, sym, ap, ap₂, ◌∙◌, arith, length-append}
+use Rattle.std.proofs.Common.{◌≡◌, ℕ, zero, suc, ◌+◌, ◌<◌, ◌≤◌, Bool, true, List, [], ◌∷◌, ◌++◌, map, length, get_or, refl, sym, ap, ap₂, ◌∙◌, arith, length-append}
 use Rattle.std.specs.declared.option.Option.{Option}
+use Rattle.std.proofs.lemmas.Bool.{and_parts}
 use Rattle.dc_syntax.specs.declared.tree.Cond.{Cond}
 use Rattle.dc_syntax.specs.declared.tree.Stmt.{Stmt, Stmt-F, out-Stmt, map-Stmt, fold_out-Stmt}
 use Rattle.dc_syntax.specs.declared.tree.Stmt.TheVariants as v
@@ -62,10 +63,6 @@ out_WhileAny A X e p = ap out-Stmt e ∙ (v.outs-WhileAny A ∙ ap WhileAny p)
 
 -- ---- variables
 
-pub both : (a b : Bool) → (a && b) ≡ true → (a ≡ true) × (b ≡ true)
-both true b h = (refl, h)
-both false b h = absurd cc
-
 pub below_out : (n : ℕ) (S : Stmt) (L : Stmt-F Stmt) → out-Stmt S ≡ L → stmt_below n S ≡ true → below_step n (map-Stmt Stmt Bool (stmt_below n) L) ≡ true
 below_out n S L e h = sym (fold_out-Stmt Bool (below_step n) S ∙ ap (λ z. below_step n (map-Stmt Stmt Bool (stmt_below n) z)) e) ∙ h
 
@@ -82,22 +79,22 @@ same_below n (Tick e) = refl
 same_below n (Assume c) = refl
 
 pub own_below : (n : ℕ) (S : Stmt) → stmt_below n S ≡ true → statement_below n (out-Stmt S) ≡ true
-own_below n S h = sym (same_below n (out-Stmt S)) ∙ (both (statement_below n (map-Stmt Stmt Bool (stmt_below n) (out-Stmt S))) _ (below_out n S (out-Stmt S) refl h)).0
+own_below n S h = sym (same_below n (out-Stmt S)) ∙ (and_parts (statement_below n (map-Stmt Stmt Bool (stmt_below n) (out-Stmt S))) _ (below_out n S (out-Stmt S) refl h)).0
 
 pub below_If : (n : ℕ) (S : Stmt) (c : Cond) (A B : List Stmt) → out-Stmt S ≡ If c A B → stmt_below n S ≡ true → (all_below n A ≡ true) × (all_below n B ≡ true)
 below_If n S c A B e h =
-    let p : _ = both (statement_below {A = Bool} n (If c (map (stmt_below n) A) (map (stmt_below n) B))) _ (below_out n S (If c A B) e h) in
-    let q : _ = both (each (map (stmt_below n) A)) (each (map (stmt_below n) B)) p.1 in
+    let p : _ = and_parts (statement_below {A = Bool} n (If c (map (stmt_below n) A) (map (stmt_below n) B))) _ (below_out n S (If c A B) e h) in
+    let q : _ = and_parts (each (map (stmt_below n) A)) (each (map (stmt_below n) B)) p.1 in
     (q.0, q.1)
 
 pub below_IfAny : (n : ℕ) (S : Stmt) (A B : List Stmt) → out-Stmt S ≡ IfAny A B → stmt_below n S ≡ true → (all_below n A ≡ true) × (all_below n B ≡ true)
 below_IfAny n S A B e h =
-    let q : _ = both (each (map (stmt_below n) A)) (each (map (stmt_below n) B)) (below_out n S (IfAny A B) e h) in
+    let q : _ = and_parts (each (map (stmt_below n) A)) (each (map (stmt_below n) B)) (below_out n S (IfAny A B) e h) in
     (q.0, q.1)
 
 pub below_While : (n : ℕ) (S : Stmt) (c : Cond) (A : List Stmt) → out-Stmt S ≡ While c A → stmt_below n S ≡ true → all_below n A ≡ true
 below_While n S c A e h =
-    let p : _ = both (statement_below {A = Bool} n (While c (map (stmt_below n) A))) _ (below_out n S (While c A) e h) in
+    let p : _ = and_parts (statement_below {A = Bool} n (While c (map (stmt_below n) A))) _ (below_out n S (While c A) e h) in
     p.1
 
 pub below_WhileAny : (n : ℕ) (S : Stmt) (A : List Stmt) → out-Stmt S ≡ WhileAny A → stmt_below n S ≡ true → all_below n A ≡ true
@@ -105,8 +102,8 @@ below_WhileAny n S A e h = below_out n S (WhileAny A) e h
 
 pub below_at : (n : ℕ) (A : List Stmt) (i : ℕ) (S : Stmt) → i < length A → S ≡ get_or A i S → all_below n A ≡ true → stmt_below n S ≡ true
 below_at n [] i S l e h = absurd (omega arith)
-below_at n (X ∷ R) zero S l e h = ap (stmt_below n) e ∙ (both (stmt_below n X) (all_below n R) h).0
-below_at n (X ∷ R) (suc i) S l e h = below_at n R i S (omega arith) e (both (stmt_below n X) (all_below n R) h).1
+below_at n (X ∷ R) zero S l e h = ap (stmt_below n) e ∙ (and_parts (stmt_below n X) (all_below n R) h).0
+below_at n (X ∷ R) (suc i) S l e h = below_at n R i S (omega arith) e (and_parts (stmt_below n X) (all_below n R) h).1
 
 -- ---- numbers of statements
 

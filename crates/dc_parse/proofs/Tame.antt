@@ -3,24 +3,26 @@ use Rattle.std.proofs.Common.{◌≡◌, ℕ, ◌+◌, ◌<◌, ◌≤◌, Bool,
 use Rattle.std.specs.declared.option.Option.{Option}
 use Rattle.std.proofs.lemmas.Bool.Decides.{nat_tests}
 use Rattle.std.specs.List.{AllByRecursion}
+use Rattle.std.proofs.lemmas.Bool.{and_from, lt-ltb}
 use Rattle.dc_tokens.specs.declared.token.TokenKind.TheVariants as k
 use Rattle.dc_tokens.specs.declared.token.Token.{Token}
 use Rattle.dc_grammar.specs.Grammar.{has, tok, ref, many, opt, ◌▸◌, Tree, Derives, token, nothing, name, both, first, second, no_more, one_more}
 use Rattle.dc_grammar.specs.Kinds.{is}
 use Rattle.dc_grammar.specs.Language as lang
 use Rattle.dc_grammar.specs.Language.{language}
+use Rattle.dc_grammar.proofs.AllKinds.{same_kind}
 use Rattle.dc_syntax.specs.declared.tree.Expr.{Expr}
 use Rattle.dc_syntax.specs.declared.tree.Cond.{Cond}
 use Rattle.dc_syntax.specs.declared.tree.Stmt.{Stmt}
 use Rattle.dc_syntax.specs.declared.tree.Stmt.TheVariants as v
 use Rattle.dc_affine.specs.Forms.{is_below}
 use Rattle.dc_affine.specs.Atoms.{cond_is_below}
-use Rattle.dc_program.specs.Limits.{literals_fit, operators, is_limited, cond_literals_fit, cond_is_limited, limits_step, stmt_is_limited, all_limited}
+use Rattle.dc_program.specs.Limits.{literals_fit, is_limited, cond_literals_fit, cond_is_limited, limits_step, stmt_is_limited, all_limited}
 use Rattle.dc_descent.specs.Trees.{expr_of, cond_of}
 use Rattle.dc_descent.specs.Statements.{assigned_of, choice_of, branch_by, loop_by, stmt_of, stmts_of, block_of, else_of}
 use Rattle.dc_parse.specs.Forms.{below_step, stmt_below, all_below}
-use Rattle.dc_parse.proofs.Counted.{is_same, each_front, each_rest, Inside, ops}
-use Rattle.dc_parse.proofs.Facts.{Known, Small, both_true, ExprFacts, CondFacts, expr_facts, cond_facts}
+use Rattle.dc_parse.proofs.Counted.{each_front, each_rest, Inside, ops}
+use Rattle.dc_parse.proofs.Facts.{Known, Small, ExprFacts, CondFacts, expr_facts, cond_facts}
 use Rattle.dc_parse.proofs.Folds.{at_skip, at_assign, at_any_of, at_between, at_tick, at_assume, at_if, at_if_any, at_while, at_while_any}
 
 -- ---- tokens with places for their names, small numbers, and few operators in a row
@@ -53,11 +55,8 @@ tame_rest {n} {p} u v t = record { known = each_rest (Known n p) u v t.known; sm
 at_most : (a : ℕ) → a ≤ 64 → leb a 64 ≡ true
 at_most a h = grind (arith, nat_tests)
 
-below_ltb : (k n : ℕ) → k < n → ltb k n ≡ true
-below_ltb k n h = grind (arith, nat_tests)
-
 and_true : (a : Bool) → a ≡ true → (a && true) ≡ true
-and_true a h = both_true a true h refl
+and_true a h = and_from a true h refl
 
 module _ (n : ℕ) (p : Token → ℕ) where
   -- ---- expressions and conditions
@@ -75,7 +74,7 @@ module _ (n : ℕ) (p : Token → ℕ) where
       let f : ExprFacts n p u (expr_of p a) = expr_facts n p d in
       record {
         below = f.below t.known;
-        limited = both_true (literals_fit (expr_of p a)) _ (f.fits t.small) (at_most _ (omega (arith, f.counts, few_all u t.few f.inside)));
+        limited = and_from (literals_fit (expr_of p a)) _ (f.fits t.small) (at_most _ (omega (arith, f.counts, few_all u t.few f.inside)));
       }
 
   pub good_cond : {u : List Token} {a : Tree Token} → Derives language (ref lang.cond) u a → Tame n p u → GoodCond (cond_of p a)
@@ -83,7 +82,7 @@ module _ (n : ℕ) (p : Token → ℕ) where
       let f : CondFacts n p u (cond_of p a) = cond_facts n p d in
       record {
         below = f.below t.known;
-        limited = both_true (cond_literals_fit (cond_of p a)) _ (f.fits t.small) (at_most _ (omega (arith, f.counts, few_all u t.few f.inside)));
+        limited = and_from (cond_literals_fit (cond_of p a)) _ (f.fits t.small) (at_most _ (omega (arith, f.counts, few_all u t.few f.inside)));
       }
 
   -- ---- statements
@@ -107,17 +106,17 @@ module _ (n : ℕ) (p : Token → ℕ) where
 
   good_assign : (k : ℕ) (x : Expr) → k < n → GoodExpr x → Good (v.Assign k x)
   good_assign k x l g = record {
-    below = at_assign Bool (below_step n) k x ∙ and_true _ (both_true _ _ (below_ltb k n l) g.below);
+    below = at_assign Bool (below_step n) k x ∙ and_true _ (and_from _ _ (lt-ltb k n l) g.below);
     limited = at_assign Bool limits_step k x ∙ and_true _ g.limited;
   }
 
   good_any_of : (k : ℕ) → k < n → Good (v.AnyOf k)
-  good_any_of k l = record { below = at_any_of Bool (below_step n) k ∙ and_true _ (below_ltb k n l); limited = at_any_of Bool limits_step k }
+  good_any_of k l = record { below = at_any_of Bool (below_step n) k ∙ and_true _ (lt-ltb k n l); limited = at_any_of Bool limits_step k }
 
   good_between : (k : ℕ) (x y : Expr) → k < n → GoodExpr x → GoodExpr y → Good (v.Between k x y)
   good_between k x y l g h = record {
-    below = at_between Bool (below_step n) k x y ∙ and_true _ (left_group (ltb k n) (is_below n x) (is_below n y) (below_ltb k n l) g.below h.below);
-    limited = at_between Bool limits_step k x y ∙ and_true _ (both_true _ _ g.limited h.limited);
+    below = at_between Bool (below_step n) k x y ∙ and_true _ (left_group (ltb k n) (is_below n x) (is_below n y) (lt-ltb k n l) g.below h.below);
+    limited = at_between Bool limits_step k x y ∙ and_true _ (and_from _ _ g.limited h.limited);
   }
     where
       left_group : (a b c : Bool) → a ≡ true → b ≡ true → c ≡ true → (a && b && c) ≡ true
@@ -132,18 +131,18 @@ module _ (n : ℕ) (p : Token → ℕ) where
 
   good_branch : (o : Option Cond) (A B : List Stmt) → GoodChoice o → Goods A → Goods B → Good (branch_by o A B)
   good_branch (Some x) A B g a b = record {
-    below = at_if Bool (below_step n) x A B ∙ both_true _ _ g.below (both_true _ _ a.below b.below);
-    limited = at_if Bool limits_step x A B ∙ both_true _ _ g.limited (both_true _ _ a.limited b.limited);
+    below = at_if Bool (below_step n) x A B ∙ and_from _ _ g.below (and_from _ _ a.below b.below);
+    limited = at_if Bool limits_step x A B ∙ and_from _ _ g.limited (and_from _ _ a.limited b.limited);
   }
   good_branch None A B g a b = record {
-    below = at_if_any Bool (below_step n) A B ∙ both_true _ _ a.below b.below;
-    limited = at_if_any Bool limits_step A B ∙ both_true _ _ a.limited b.limited;
+    below = at_if_any Bool (below_step n) A B ∙ and_from _ _ a.below b.below;
+    limited = at_if_any Bool limits_step A B ∙ and_from _ _ a.limited b.limited;
   }
 
   good_loop : (o : Option Cond) (A : List Stmt) → GoodChoice o → Goods A → Good (loop_by o A)
   good_loop (Some x) A g a = record {
-    below = at_while Bool (below_step n) x A ∙ both_true _ _ g.below a.below;
-    limited = at_while Bool limits_step x A ∙ both_true _ _ g.limited a.limited;
+    below = at_while Bool (below_step n) x A ∙ and_from _ _ g.below a.below;
+    limited = at_while Bool limits_step x A ∙ and_from _ _ g.limited a.limited;
   }
   good_loop None A g a = record { below = at_while_any Bool (below_step n) A ∙ a.below; limited = at_while_any Bool limits_step A ∙ a.limited }
 
@@ -163,10 +162,10 @@ module _ (n : ℕ) (p : Token → ℕ) where
   or_first false b e h = absurd cc
 
   named : (t : Token) (u : List Token) → has is (k.Name ∷ []) t.kind ≡ true → Tame n p (t ∷ u) → p t < n
-  named t u h m = m.known.0 (sym (is_same k.Name t.kind (or_first (is k.Name t.kind) false refl h)))
+  named t u h m = m.known.0 (sym (same_kind k.Name t.kind (or_first (is k.Name t.kind) false refl h)))
 
   good_cons : (x : Stmt) (xs : List Stmt) → Good x → Goods xs → Goods (x ∷ xs)
-  good_cons x xs g h = record { below = both_true _ _ g.below h.below; limited = both_true _ _ g.limited h.limited }
+  good_cons x xs g h = record { below = and_from _ _ g.below h.below; limited = and_from _ _ g.limited h.limited }
 
   no_stmts : Goods []
   no_stmts = record { below = refl; limited = refl }

@@ -2,6 +2,7 @@
 use Rattle.std.proofs.Common.{◌≡◌, ◌≢◌, ℕ, zero, suc, ◌+◌, ◌-◌, ◌<◌, ◌≤◌, ◌⊎◌, inl, inr, length, Option, Some, None, refl, sym, ◌∙◌, ap, subst, arith}
 use Rattle.std.specs.Option.{option_and_then}
 use Rattle.std.proofs.lemmas.Bool.{cases_eq, cases_lt}
+use Rattle.std.proofs.lemmas.Option.{same_Some}
 use Rattle.dc_math.specs.Field.{Field, sum_to, minus}
 use Rattle.dc_pivots.proofs.Rows.{Rows, pivot_at, basis_at}
 use Rattle.dc_lp.specs.Linear.{Linear}
@@ -88,10 +89,7 @@ module _ (Q : Type 0) (F : Field Q) (p : Linear Q) where
 
   after-is : (b a : State Q) (d : Due) → due_at Q F b ≡ d → after Q F b.table d ≡ Some a → (a ≡ moved b d) × IsPivot d
   unfolding moved
-  after-is b a (Pivot q r j) e h = (sym (some-same _ _ h), tt)
-    where
-      some-same : (x y : State Q) → Some x ≡ Some y → x ≡ y
-      some-same x y e = (cc)
+  after-is b a (Pivot q r j) e h = (sym (same_Some _ _ h), tt)
   after-is b a (End x) e h = absurd (cc)
 
   run-step : (x : ℕ) (a : State Q) (o : Option (State Q)) → run Q F p x ≡ o → ((b : State Q) → run Q F p x ≡ Some b → IsReached x b) → option_and_then (λ y. after Q F y.table (due_at Q F y)) o ≡ Some a → IsReached (suc x) a

@@ -15,6 +15,7 @@ use Rattle.dc_poly.specs.Sums.{zeros, values}
 use Rattle.dc_poly.specs.Monomials.{of_degree, monomials_of}
 use Rattle.dc_poly.proofs.Values.{zeros_value}
 use Rattle.dc_template.specs.Templates.{mono_values}
+use Rattle.dc_template.proofs.Walks.{degree_zero}
 use Rattle.dc_claims.specs.declared.duty.Duty.{Duty}
 use Rattle.dc_claims.specs.declared.duty.Duty.TheVariants.{Along, AtExit, AtEntry}
 use Rattle.dc_claims.specs.Duties.{Pair, no_edge, edge_at, exit_of, IsOwed}
@@ -22,12 +23,9 @@ use Rattle.dc_claims.specs.Claims.{Potential, Multipliers, potential_value, left
 use Rattle.dc_plain.proofs.Prices.{IsPaid}
 
 -- ---- the first monomial is 1
-degree_none : (n : ℕ) → of_degree n 0 ≡ zeros n ∷ []
-degree_none zero = refl
-degree_none (suc n) = ap (map (λ m. 0 ∷ m)) (degree_none n)
 
 first_monomial : (n d : ℕ) → (rest : List Exponents) × (monomials_of n d ≡ zeros n ∷ rest)
-first_monomial n zero = ([], degree_none n)
+first_monomial n zero = ([], degree_zero n)
 first_monomial n (suc d) =
     let r = first_monomial n d in
     (r.0 ++ of_degree n (suc d), ap (λ ms. ms ++ of_degree n (suc d)) r.1)

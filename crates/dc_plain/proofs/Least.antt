@@ -1,9 +1,9 @@
 -- The difference is the least threshold: two runs cost it apart, so no certificate shows less.
-use Rattle.std.specs.Prelude.{◌≡◌, ℕ, zero, suc, ◌-◌, ◌&&◌, true, false, List, [], ◌∷◌, length, replicate, slice_index_or, ℤ, pos}
+use Rattle.std.specs.Prelude.{◌≡◌, ℕ, zero, suc, ◌-◌, true, false, List, [], ◌∷◌, length, replicate, slice_index_or, ℤ, pos}
 use Rattle.std.specs.List.{AllByRecursion}
-use Rattle.std.proofs.Common.{refl, sym, ap, ap₂, ◌∙◌, subst, arith, inl, inr}
+use Rattle.std.proofs.Common.{refl, sym, ap, ◌∙◌, subst, arith, inl, inr}
 use Rattle.std.proofs.lemmas.List.{length-replicate}
-use Rattle.dc_math.specs.Members.{Among, head, tail, each_among}
+use Rattle.dc_math.specs.Members.{each_among}
 use Rattle.dc_syntax.specs.declared.tree.Proc.{Proc}
 use Rattle.dc_syntax.specs.declared.tree.Side.TheVariants.{New, Old}
 use Rattle.dc_syntax.specs.Value.{State}
@@ -11,7 +11,7 @@ use Rattle.dc_syntax.specs.Plain.{HasPlainCost}
 use Rattle.dc_syntax.specs.Costs.{Costs}
 use Rattle.dc_syntax.proofs.PlainRuns.{plain-costs_once, plain-costs_differ}
 use Rattle.dc_affine.specs.declared.atom.Atom.{Atom}
-use Rattle.dc_affine.specs.Atoms.{holds_at, all_hold, Allowed, IsAtom}
+use Rattle.dc_affine.specs.Atoms.{all_hold, Allowed, IsAtom}
 use Rattle.dc_system.specs.declared.edges.System.{System}
 use Rattle.dc_system.specs.Systems.{system_of}
 use Rattle.dc_system.specs.Shapes.{IsWellFormed}
@@ -38,6 +38,7 @@ use Rattle.dc_plain.specs.Laws.{IsSystemOf, AreInductive, PlainHaveDifference, P
 use Rattle.dc_plain.proofs.Prices.{IsPaid, system_paid}
 use Rattle.dc_plain.proofs.Folds.{folded_paid}
 use Rattle.dc_plain.proofs.Certified.{paid_certified}
+use Rattle.dc_check.proofs.Inductions.{all_true}
 
 -- ---- runs
 pub plain_have_difference : PlainHaveDifference
@@ -75,9 +76,6 @@ runs_at q s h v c k = elim h.system [
 ]
 
 -- ---- inductive atoms hold where a path leads
-all_true : (gs : List Atom) (x : List ℤ) → ((a : Atom) → Among a gs → holds_at a x ≡ true) → all_hold gs x ≡ true
-all_true [] x h = refl
-all_true (a ∷ gs) x h = ap₂ ◌&&◌ (h a head) (all_true gs x (λ b i. h b (tail i)))
 
 lists_over : (n : ℕ) (lists : List (List Atom)) → AllByRecursion (AreAtoms n) lists → IsOver n (family_of lists)
 lists_over n lists h l a t = (each_among (IsAtom n) (atoms_in n l lists h) (has_among (slice_index_or lists l []) a t)).few

@@ -9,7 +9,8 @@ use Rattle.dc_syntax.specs.declared.tree.Stmt.{Stmt, Stmt-F, out-Stmt}
 use Rattle.dc_syntax.specs.declared.tree.Stmt.TheOpen.{Skip, Tick}
 use Rattle.dc_syntax.specs.declared.tree.Expr.{Expr, Expr-F, out-Expr, fold_out-Expr}
 use Rattle.dc_syntax.specs.declared.tree.Expr.TheOpen as F
-use Rattle.dc_syntax.specs.Plain.{number_in, plain_in, both, plain_cost, HasPlainCost}
+use Rattle.dc_syntax.specs.Plain.{number_in, plain_in, plain_cost, HasPlainCost}
+use Rattle.dc_syntax.proofs.PlainRuns.{both-parts}
 use Rattle.dc_poly.specs.Terms.{value}
 use Rattle.dc_poly.proofs.Values.{value-constant}
 use Rattle.dc_affine.specs.Forms.{Formed, form_step, form_of}
@@ -73,11 +74,6 @@ left : List Stmt → ℕ → ℕ
 left [] i = 0
 left (S ∷ R) zero = or_zero (plain_cost (S ∷ R))
 left (S ∷ R) (suc i) = left R i
-
-both-parts : (o p : Option ℕ) (c : ℕ) → both o p ≡ Some c → (a b : ℕ) × (o ≡ Some a) × (p ≡ Some b) × (a + b ≡ c)
-both-parts None p c h = cc
-both-parts (Some a) None c h = cc
-both-parts (Some a) (Some b) c h = (a, b, refl, refl, cc)
 
 left_start : (A : List Stmt) (c : ℕ) → plain_cost A ≡ Some c → left A 0 ≡ c
 unfolding left or_zero

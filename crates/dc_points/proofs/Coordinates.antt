@@ -5,7 +5,7 @@ use Rattle.std.proofs.Common.{refl, sym, ◌∙◌, ap, ap₂, subst, arith}
 use Rattle.std.proofs.lemmas.Int.{ints}
 use lib.IntN.{zero-*ℤ}
 use Rattle.dc_math.specs.WholeVectors.{dot_ℤ}
-use Rattle.dc_math.specs.Rational.{ℚ, Fraction, ratio, ◌≤ℚ◌, ◌+ℚ◌, ◌*ℚ◌, of_ℤ, of_ℤ-+ℤ, of_ℤ-*ℤ, *ℚ_comm, *ℚ_assoc, zero-*ℚ, <ℚ-≤ℚ, product_positive, NonNegative, NonNegative-*ℚ}
+use Rattle.dc_math.specs.Rational.{ℚ, Fraction, ratio, ◌≤ℚ◌, ◌+ℚ◌, ◌*ℚ◌, of_ℤ, of_ℤ-+ℤ, of_ℤ-*ℤ, *ℚ_comm, *ℚ_assoc, zero-*ℚ, <ℚ-≤ℚ, product_positive, NonNegative, NonNegative-*ℚ, *ℚ-zero}
 use Rattle.dc_math.specs.RationalRing.{ring, reads, read_nat, same_form, linear₁}
 use Rattle.dc_math.specs.Inverse.{inverse, *ℚ-inverse}
 use Rattle.dc_math.specs.Signs.{of_ℤ-≤, of_ℤ-≤_back}
@@ -30,10 +30,7 @@ IsPlaced n z p = (k : ℕ) → k < n → of_ℤ (slice_index_or p.numbers k (pos
 
 -- ---- an atom's left side
 pub dot-by_places : (n : ℕ) (cs xs : List ℤ) → length cs ≤ n → of_ℤ (dot_ℤ cs xs) ≡ sum_ℚ n (λ i. of_ℤ (slice_index_or xs i (pos 0)) *ℚ of_ℤ (slice_index_or cs i (pos 0)))
-dot-by_places n [] xs h = sym (sum_ℚ_zero n (λ i. of_ℤ (slice_index_or xs i (pos 0)) *ℚ of_ℤ (pos 0)) (λ i l. times_zero (of_ℤ (slice_index_or xs i (pos 0)))))
-  where
-    times_zero : (x : ℚ) → x *ℚ of_ℤ (pos 0) ≡ of_ℤ (pos 0)
-    times_zero x = *ℚ_comm x (of_ℤ (pos 0)) ∙ zero-*ℚ x
+dot-by_places n [] xs h = sym (sum_ℚ_zero n (λ i. of_ℤ (slice_index_or xs i (pos 0)) *ℚ of_ℤ (pos 0)) (λ i l. *ℚ-zero (of_ℤ (slice_index_or xs i (pos 0)))))
 dot-by_places zero (c ∷ cs) xs h = absurd (omega arith)
 dot-by_places (suc n) (c ∷ cs) [] h = sym (sum_ℚ_zero (suc n) (λ i. of_ℤ (pos 0) *ℚ of_ℤ (slice_index_or (c ∷ cs) i (pos 0))) (λ i l. zero-*ℚ (of_ℤ (slice_index_or (c ∷ cs) i (pos 0)))))
 dot-by_places (suc n) (c ∷ cs) (x ∷ xs) h =

@@ -3,7 +3,7 @@
 use Rattle.std.specs.Prelude.{◌≡◌, ◌≢◌, ℕ, ◌<◌, eqb, if◌then◌else◌, List, [], ◌∷◌, length, ℤ, pos, negsuc}
 use Rattle.std.proofs.Common.{refl, sym, ◌∙◌, ap, ap₂, subst, subst₂, arith}
 use Rattle.std.proofs.lemmas.Bool.{lt-ltb, eq-eqb, ne_eqb}
-use Rattle.dc_math.specs.Rational.{ℚ, ◌+ℚ◌, ◌*ℚ◌, neg_ℚ, of_ℤ, ◌≤ℚ◌, ◌<ℚ◌, zero-*ℚ, ≤ℚ-sub, sub-≤ℚ, NonNegative}
+use Rattle.dc_math.specs.Rational.{ℚ, ◌+ℚ◌, ◌*ℚ◌, neg_ℚ, of_ℤ, ◌≤ℚ◌, ◌<ℚ◌, zero-*ℚ, ≤ℚ-sub, sub-≤ℚ, NonNegative, *ℚ-zero}
 use Rattle.dc_math.specs.RationalRing.{ring, reads, read_nat, same_form, linear₁}
 use Rattle.dc_math.specs.RationalField.{NonNegative-neg_ℚ, +ℚ-neg_ℚ}
 use Rattle.dc_math.specs.Inverse.{inverse, *ℚ-inverse}
@@ -62,13 +62,10 @@ module _ (n : ℕ) (hyps : List Atom) where
   empty-right y =
       sum_ℚ_last n (λ i. y i *ℚ empty.right_side i)
       ∙ ap₂ ◌+ℚ◌
-      (sum_ℚ_zero n (λ i. y i *ℚ empty.right_side i) (λ i l. ap (λ x. y i *ℚ of_ℤ x) (inside i (negsuc 0) (pos 0) l) ∙ nothing (y i)))
+      (sum_ℚ_zero n (λ i. y i *ℚ empty.right_side i) (λ i l. ap (λ x. y i *ℚ of_ℤ x) (inside i (negsuc 0) (pos 0) l) ∙ *ℚ-zero (y i)))
       (ap (λ x. y n *ℚ x) (ap of_ℤ (last (negsuc 0) (pos 0)) ∙ minus_one))
       ∙ negated (y n)
     where
-      nothing : (x : ℚ) → x *ℚ of_ℤ (pos 0) ≡ of_ℤ (pos 0)
-      nothing x = ring (x ∷ []) (λ ρ p. simp (p, read_nat ρ, reads) (same_form _ _ _ refl))
-
       negated : (x : ℚ) → of_ℤ (pos 0) +ℚ x *ℚ neg_ℚ (of_ℤ (pos 1)) ≡ neg_ℚ x
       negated x = ring (x ∷ []) (λ ρ p. simp (p, read_nat ρ, reads) (same_form _ _ _ refl))
 

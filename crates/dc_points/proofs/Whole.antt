@@ -1,19 +1,20 @@
 -- Points of whole numbers, and the whole numbers from which a form is entailed.
-use Rattle.std.specs.Prelude.{◌≡◌, true, List, [], ◌∷◌, ℤ, pos, negsuc, ◌+ℤ◌, ◌*ℤ◌, ◌≤ℤ◌, int_le}
+use Rattle.std.specs.Prelude.{◌≡◌, true, List, [], ◌∷◌, ℤ, pos, negsuc, ◌+ℤ◌, ◌*ℤ◌, ◌≤ℤ◌, int_le, ℕ}
 use Rattle.std.proofs.Common.{refl, sym, ◌∙◌, ap, subst, arith}
 use Rattle.std.proofs.lemmas.Bool.{false≢true, le-leb, and_parts, and_from}
 use Rattle.std.proofs.lemmas.Int.{ints}
+use Rattle.std.specs.List.{AllByRecursion}
 use Rattle.dc_math.specs.WholeVectors.{dot_ℤ}
 use Rattle.dc_math.specs.Rational.{ℚ, ◌+ℚ◌, ◌*ℚ◌, of_ℤ, of_ℤ-+ℤ, of_ℤ-*ℤ, NonNegative}
 use Rattle.dc_math.specs.RationalRing.{ring, reads, same_form}
 use Rattle.dc_math.specs.Signs.{of_ℤ-≤, of_ℤ-≤_back}
 use Rattle.dc_affine.specs.declared.atom.Atom.{Atom}
-use Rattle.dc_affine.specs.Atoms.{atom_value, holds_at, all_hold}
-use Rattle.dc_points.specs.Points.{left_at, MeetsAt, MeetsAll, whole_point}
+use Rattle.dc_affine.specs.Atoms.{atom_value, holds_at, all_hold, IsAtom}
+use Rattle.dc_points.specs.Points.{left_at, MeetsAt, MeetsAll, whole_point, AreOver}
 use Rattle.dc_points.specs.Laws.{AtomsAreForms, WholePointsMeet}
 
 -- ---- a point of whole numbers
-test_true : (v : ℤ) → int_le (pos 0) v ≡ true → pos 0 ≤ℤ v
+pub test_true : (v : ℤ) → int_le (pos 0) v ≡ true → pos 0 ≤ℤ v
 test_true (pos n) h = omega (arith, ints)
 test_true (negsuc n) h = absurd (false≢true h)
 
@@ -44,6 +45,11 @@ whole_points_meet hyps x = (forth hyps, back hyps)
     back : (hs : List Atom) → all_hold hs x ≡ true → MeetsAll (whole_point x) hs
     back [] h = tt
     back (a ∷ hs) h = (let p = and_parts (holds_at a x) (all_hold hs x) h in (holds_at-meets a x p.0, back hs p.1))
+
+-- ---- atoms within their sizes over n places have at most n coefficients
+pub over_atoms : (n : ℕ) (atoms : List Atom) → AllByRecursion (IsAtom n) atoms → AreOver n atoms
+over_atoms n [] h = tt
+over_atoms n (a ∷ atoms) h = (h.0.few, over_atoms n atoms h.1)
 
 -- ---- from a whole number on
 rational_left : (w d x : ℤ) → of_ℤ (w *ℤ d +ℤ x) ≡ of_ℤ x +ℚ of_ℤ w *ℚ of_ℤ d

@@ -8,6 +8,7 @@ use Rattle.dc_poly.specs.Terms.{Exponents, TermList, front, others, mono_value, 
 use Rattle.dc_poly.specs.Sums.{zeros, plus, values}
 use Rattle.dc_poly.specs.Affine.{units, along, Affine, scaled_value, scaled_values}
 use Rattle.dc_math.specs.WholeVectors.{scale_ℤ}
+use Rattle.dc_math.specs.Integers.{*ℤ-one}
 use Rattle.dc_poly.proofs.Values.{coef-plus}
 
 along-map : (f : Exponents → ℤ) (us : List Exponents) (s : List ℤ) → along f (map (λ u. 0 ∷ u) us) s ≡ along (λ u. f (0 ∷ u)) us s
@@ -72,10 +73,7 @@ affine_value n (t ∷ p) s h =
 
 -- ---- at rational points
 pub scaled_one : (n : ℕ) (p : TermList) (xs : List ℤ) → Affine n p → scaled_value n p (pos 1) xs ≡ value p xs
-scaled_one n p xs h = ap (λ y. y +ℤ along (coef p) (units n) xs) (by_one (coef p (zeros n))) ∙ sym (affine_value n p xs h)
-  where
-    by_one : (y : ℤ) → y *ℤ pos 1 ≡ y
-    by_one y = ring (y ∷ []) (λ ρ i. simp (i, read_nat ρ, reads) (same_form _ _ _ refl))
+scaled_one n p xs h = ap (λ y. y +ℤ along (coef p) (units n) xs) (*ℤ-one (coef p (zeros n))) ∙ sym (affine_value n p xs h)
 
 front-scaled : (k : ℤ) (xs : List ℤ) → front (scale_ℤ k xs) ≡ k *ℤ front xs
 front-scaled k [] = sym (ring (k ∷ []) (λ ρ i. simp (i, read_nat ρ, reads) (same_form _ _ _ refl)))

@@ -6,14 +6,11 @@ use Rattle.std.proofs.lemmas.Int.{ints}
 use Rattle.dc_poly.specs.declared.monomial.Term.{Term}
 use Rattle.dc_poly.specs.Terms.{Exponents, TermList, term, same_mono, coef, Before, Ahead, Canonical}
 use Rattle.dc_poly.proofs.Graded.{Before-not, Order, before, same, after, order, Ahead-more}
-
-so : (b : Bool) → T b → b ≡ true
-so true h = refl
-so false h = absurd h
+use Rattle.dc_math.specs.Tests.{to_true}
 
 pub same_mono_refl : (m : Exponents) → same_mono m m ≡ true
 same_mono_refl [] = refl
-same_mono_refl (e ∷ m) = rw (so (eqb e e) (eqb_refl e)) (same_mono_refl m)
+same_mono_refl (e ∷ m) = rw (to_true (eqb e e) (eqb_refl e)) (same_mono_refl m)
 
 pub same_mono_is : (m k : Exponents) → same_mono m k ≡ true → m ≡ k
 same_mono_is [] [] h = refl

@@ -2,6 +2,7 @@
 use Rattle.std.specs.Prelude.{◌≡◌, ℕ, Bool, true, false, cond, List, [], ◌∷◌, ◌++◌, length, ℤ, pos, ◌+ℤ◌, ◌*ℤ◌}
 use Rattle.std.proofs.Common.{refl, sym, ◌∙◌, ap, ap₂, subst, arith}
 use Rattle.std.proofs.lemmas.Int.{ints}
+use Rattle.std.proofs.Math.IntN.{+ℤ_idl}
 use Rattle.dc_math.specs.WholeRing as whole
 use Rattle.dc_math.specs.Rational.{ℚ, ◌+ℚ◌, ◌*ℚ◌, of_ℤ, of_ℤ-+ℤ, of_ℤ-*ℤ, *ℚ_comm, zero-*ℚ}
 use Rattle.dc_math.specs.RationalRing.{ring, reads, read_nat, same_form}
@@ -45,10 +46,7 @@ coef-scaled m k (t ∷ p) = by (same_mono t.mono m) (coef p m) _ (coef-scaled m 
   where
     by : (b : Bool) (y z : ℤ) → z ≡ k *ℤ y → cond b (k *ℤ t.coef) (pos 0) +ℤ z ≡ k *ℤ (cond b t.coef (pos 0) +ℤ y)
     by true y z e = rw e (whole.ring (k ∷ t.coef ∷ y ∷ []) (λ ρ h i j. simp (h, i, j, whole.reads) (whole.same_form _ _ _ refl)))
-    by false y z e = zero_plus z ∙ e ∙ ap (λ v. k *ℤ v) (sym (zero_plus y))
-      where
-        zero_plus : (x : ℤ) → pos 0 +ℤ x ≡ x
-        zero_plus x = omega (arith, ints)
+    by false y z e = +ℤ_idl z ∙ e ∙ ap (λ v. k *ℤ v) (sym (+ℤ_idl y))
 
 value_additive : (xs : List ℤ) → IsAdditive (λ p. value p xs)
 value_additive xs = record { none = refl; joined = λ p q. value-++ p q xs; multiplied = value-scaled xs }

@@ -32,7 +32,7 @@ no_places : (d : ℕ) → length (monomials_of 0 d) ≡ 1
 no_places zero = refl
 no_places (suc d) = let a = below_more 0 (suc d) in let b = no_places d in omega arith
 
-no_degree : (n : ℕ) → length (monomials_of n 0) ≡ 1
+pub no_degree : (n : ℕ) → length (monomials_of n 0) ≡ 1
 no_degree zero = refl
 no_degree (suc n) = let a = below_more (suc n) 0 in let b = level_is n 0 in let c = no_degree n in omega arith
 

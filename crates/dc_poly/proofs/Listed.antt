@@ -92,7 +92,7 @@ below-only n (suc d) =
     (each-weaker (IsBelow n d) (IsBelow n (suc d)) (λ m h. record { places = h.places; low = (let l = h.low in omega arith) }) (below n d) (below-only n d))
     (each-weaker (IsExact n d) (IsBelow n (suc d)) (λ m h. record { places = h.places; low = (let l = h.level in omega arith) }) (of_degree n d) (exact n d))
 
-below-ordered : (n d : ℕ) → Ordered Before (below n d)
+pub below-ordered : (n d : ℕ) → Ordered Before (below n d)
 below-ordered n zero = tt
 below-ordered n (suc d) =
     ordered-append Before (below n d) (of_degree n d) (below-ordered n d) (ordered n d)

@@ -127,7 +127,7 @@ merge_done p q out left right k h (inr e) =
 open_at : (i : ℕ) (p : TermList) (a : Term) → i < length p → a ≡ get_or p i a → drop i p ≡ a ∷ drop (i + 1) p
 open_at i p a h e = drop_more p i a h ∙ ap (λ y. y ∷ drop (i + 1) p) (sym e)
 
-told_before : (m k : Exponents) (o : Ordering) → o ≡ graded m k → Told m k o
+pub told_before : (m k : Exponents) (o : Ordering) → o ≡ graded m k → Told m k o
 told_before m k o e = subst (Told m k) (sym e) (graded_told m k)
 
 pub merge_less : (p q out out2 : TermList) (i j : ℕ) (a b : Term) → i < length p → j < length q → a ≡ get_or p i a → b ≡ get_or q j b → Less ≡ graded a.mono b.mono → out2 ≡ out ++ a ∷ []

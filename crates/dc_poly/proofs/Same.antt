@@ -2,7 +2,7 @@
 use Rattle.std.specs.Prelude.{◌≡◌, ℕ, suc, ◌+◌, ◌≤◌, max, Bool, true, false, cond, List, [], ◌∷◌, ◌++◌, length, ℤ, pos, neg_ℤ, ◌+ℤ◌, ◌*ℤ◌, refl}
 use Rattle.std.proofs.Common.{◌∙◌, ap, arith}
 use Rattle.std.proofs.lemmas.Int.{ints}
-use Rattle.dc_math.specs.WholeRing.{ring, reads, same_form}
+use Rattle.dc_math.specs.Integers.{neg_ℤ-*ℤ}
 use Rattle.dc_poly.specs.Terms.{Exponents, TermList, mono_value, value, same_mono, coef, Places}
 use Rattle.dc_poly.specs.Grid.{Bounded, Over, Grid, whole}
 use Rattle.dc_poly.proofs.Vanish.{vanishing}
@@ -16,12 +16,9 @@ pub coef-++ : (p q : TermList) (m : Exponents) → coef (p ++ q) m ≡ coef p m 
 coef-++ [] q m = omega (arith, ints)
 coef-++ (t ∷ p) q m = let h = coef-++ p q m in omega (arith, ints)
 
-neg_out : (c v : ℤ) → neg_ℤ c *ℤ v ≡ neg_ℤ (c *ℤ v)
-neg_out c v = ring (c ∷ v ∷ []) (λ ρ a b. simp (a, b, reads) (same_form _ _ _ refl))
-
 pub value-negated : (p : TermList) (xs : List ℤ) → value (negated p) xs ≡ neg_ℤ (value p xs)
 value-negated [] xs = refl
-value-negated (t ∷ p) xs = let h = value-negated p xs in let k = neg_out t.coef (mono_value t.mono xs) in omega (arith, ints)
+value-negated (t ∷ p) xs = let h = value-negated p xs in let k = neg_ℤ-*ℤ t.coef (mono_value t.mono xs) in omega (arith, ints)
 
 pub coef-negated : (p : TermList) (m : Exponents) → coef (negated p) m ≡ neg_ℤ (coef p m)
 coef-negated [] m = refl

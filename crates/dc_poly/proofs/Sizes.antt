@@ -1,22 +1,20 @@
 -- The weights of results: at most what is computed without cancelling.
-use Rattle.std.specs.Prelude.{◌≡◌, ℕ, zero, suc, ◌+◌, ◌*◌, ◌^◌, ◌≤◌, max, List, [], ◌∷◌, ℤ, pos, negsuc, neg_ℤ, ◌+ℤ◌, unsigned_abs, refl}
+use Rattle.std.specs.Prelude.{◌≡◌, ℕ, zero, suc, ◌+◌, ◌*◌, ◌^◌, ◌≤◌, max, List, [], ◌∷◌, ℤ, pos, negsuc, ◌+ℤ◌, unsigned_abs, refl}
 use Rattle.std.proofs.Common.{sym, ◌∙◌, ap, ap₂, subst, arith}
 use Rattle.std.specs.declared.cmp.Ordering.{Ordering}
 use Rattle.std.specs.declared.cmp.Ordering.TheVariants.{Less, Equal, Greater}
 use Rattle.std.proofs.Math.Nat.{pow-zero, pow-succ'}
-use Rattle.std.proofs.lemmas.Int.{ints, unsigned_abs-mul}
+use Rattle.std.proofs.lemmas.Int.{unsigned_abs-mul}
 use Rattle.dc_poly.specs.Terms.{Exponents, TermList, degree, degree_of, weight, Polynomial}
 use Rattle.dc_poly.specs.Order.{graded}
 use Rattle.dc_poly.specs.Sums.{with_term, insert, plus, negated, shifted, times, zeros, constant_of, times_power, first_of, rest_of, term_at, composed}
 use Rattle.dc_poly.specs.Conditions.{product_weight, composed_weight}
+use Rattle.dc_math.specs.Integers.{size-neg_ℤ, size-+ℤ}
 
 pub weight-with_term : (m : Exponents) (c : ℤ) (p : TermList) → weight (with_term m c p) ≡ unsigned_abs c + weight p
 weight-with_term m (pos zero) p = omega arith
 weight-with_term m (pos (suc n)) p = refl
 weight-with_term m (negsuc n) p = refl
-
-size-sum : (c d : ℤ) → unsigned_abs (c +ℤ d) ≤ unsigned_abs c + unsigned_abs d
-size-sum c d = omega (arith, ints)
 
 pub weight-insert : (m : Exponents) (c : ℤ) (p : TermList) → weight (insert m c p) ≤ unsigned_abs c + weight p
 weight-insert m c [] = let e = weight-with_term m c [] in omega arith
@@ -24,7 +22,7 @@ weight-insert m c (t ∷ p) = by (weight-insert m c p) (graded m t.mono)
   where
     by : weight (insert m c p) ≤ unsigned_abs c + weight p → (o : Ordering) → weight (elim o [ Less ↦ with_term m c (t ∷ p) | Equal ↦ with_term m (c +ℤ t.coef) p | Greater ↦ t ∷ insert m c p ]) ≤ unsigned_abs c + (unsigned_abs t.coef + weight p)
     by r Less = (let e = weight-with_term m c (t ∷ p) in omega arith)
-    by r Equal = (let e = weight-with_term m (c +ℤ t.coef) p in let f = size-sum c t.coef in omega arith)
+    by r Equal = (let e = weight-with_term m (c +ℤ t.coef) p in let f = size-+ℤ c t.coef in omega arith)
     by r Greater = omega arith
 
 pub weight-plus : (p q : TermList) → weight (plus p q) ≤ weight p + weight q
@@ -33,10 +31,7 @@ weight-plus (t ∷ p) q = let a = weight-insert t.mono t.coef (plus p q) in let 
 
 pub weight-negated : (p : TermList) → weight (negated p) ≡ weight p
 weight-negated [] = refl
-weight-negated (t ∷ p) = ap₂ (λ x y. x + y) (size-neg t.coef) (weight-negated p)
-  where
-    size-neg : (c : ℤ) → unsigned_abs (neg_ℤ c) ≡ unsigned_abs c
-    size-neg c = omega (arith, ints)
+weight-negated (t ∷ p) = ap₂ (λ x y. x + y) (size-neg_ℤ t.coef) (weight-negated p)
 
 pub weight-shifted : (m : Exponents) (c : ℤ) (p : TermList) → weight (shifted m c p) ≡ unsigned_abs c * weight p
 weight-shifted m c [] = omega arith
@@ -86,7 +81,7 @@ power_both : (x y e : ℕ) → x ≤ y → x ^ e ≤ y ^ e
 power_both x y zero h = rw (pow-zero x, pow-zero y) (omega arith)
 power_both x y (suc e) h = rw (pow-succ' x e, pow-succ' y e) (mul_both x y _ _ h (power_both x y e h))
 
-power-+ : (w a b : ℕ) → w ^ (a + b) ≡ w ^ a * w ^ b
+pub power-+ : (w a b : ℕ) → w ^ (a + b) ≡ w ^ a * w ^ b
 power-+ w zero b = rw pow-zero (let e : zero + b ≡ b = omega arith in ap (λ i. w ^ i) e ∙ one-times (w ^ b))
   where
     one-times : (x : ℕ) → x ≡ 1 * x

@@ -1,6 +1,6 @@
 -- A term at values: where it vanishes, and that no part of it is larger than the whole.
 use Rattle.std.specs.Prelude.{◌≡◌, ℕ, zero, suc, ◌+◌, ◌-◌, ◌*◌, ◌^◌, ◌<◌, ◌≤◌, true, false, ◌==◌, List, [], ◌∷◌, length, get_or, drop, ℤ, unsigned_abs, refl}
-use Rattle.std.proofs.Common.{sym, ◌∙◌, ap, ap₂, subst, arith}
+use Rattle.std.proofs.Common.{sym, ◌∙◌, ap, ap₂, subst, arith, mul-zero, zero-mul}
 use Rattle.std.proofs.Math.Nat.{pow-zero, pow-succ'}
 use Rattle.std.proofs.lemmas.List.{drop_more, drop_all, nil_from_length, get_or_default}
 use Rattle.std.proofs.lemmas.Int.{ints}
@@ -35,17 +35,11 @@ weight_positive (t ∷ p) h e = by (weight (t ∷ p)) refl
 pub vanished : (n : ℕ) (c : ℤ) (m : Exponents) (vs : List Polynomial) → product_weight m vs ≡ 0 → [] ≡ term_at n c m vs
 vanished n c m vs h =
     sym (weight_zero (term_at n c m vs) (Canonical-term_at n c m vs)
-    (let w = weight-term_at n c m vs in let e : unsigned_abs c * product_weight m vs ≡ 0 = ap (λ y. unsigned_abs c * y) h ∙ times_zero (unsigned_abs c) in omega arith))
-  where
-    times_zero : (x : ℕ) → x * 0 ≡ 0
-    times_zero x = omega arith
+    (let w = weight-term_at n c m vs in let e : unsigned_abs c * product_weight m vs ≡ 0 = ap (λ y. unsigned_abs c * y) h ∙ mul-zero (unsigned_abs c) in omega arith))
 
 zero_power : (w e : ℕ) → w ≡ 0 → 0 < e → w ^ e ≡ 0
 zero_power w zero h k = absurd (omega arith)
-zero_power w (suc e) h k = pow-succ' w e ∙ ap (λ y. y * w ^ e) h ∙ zero_times (w ^ e)
-  where
-    zero_times : (x : ℕ) → 0 * x ≡ 0
-    zero_times x = omega arith
+zero_power w (suc e) h k = pow-succ' w e ∙ ap (λ y. y * w ^ e) h ∙ zero-mul (w ^ e)
 
 mul_positive : (x y : ℕ) → 0 < x → 0 < y → 0 < x * y
 mul_positive (suc x) (suc y) h k = omega arith
@@ -65,15 +59,9 @@ pub zero_at : (k : ℕ) (m : Exponents) (vs : List Polynomial) (v : Polynomial) 
 zero_at k [] vs v h l e g z = absurd (omega arith)
 zero_at k (x ∷ m) [] v h l e g z = absurd (omega arith)
 zero_at zero (x ∷ m) (u ∷ vs) v h l e g z =
-    ap (λ y. y * product_weight m vs) (zero_power (weight u.terms) x (ap (λ (y : Polynomial). weight y.terms) (sym e) ∙ ap weight (nil_from_length v.terms z)) g) ∙ zero_times (product_weight m vs)
-  where
-    zero_times : (x : ℕ) → 0 * x ≡ 0
-    zero_times x = omega arith
+    ap (λ y. y * product_weight m vs) (zero_power (weight u.terms) x (ap (λ (y : Polynomial). weight y.terms) (sym e) ∙ ap weight (nil_from_length v.terms z)) g) ∙ zero-mul (product_weight m vs)
 zero_at (suc k) (x ∷ m) (u ∷ vs) v h l e g z =
-    ap (λ y. weight u.terms ^ x * y) (zero_at k m vs v (omega arith) (omega arith) e g z) ∙ times_zero (weight u.terms ^ x)
-  where
-    times_zero : (x : ℕ) → x * 0 ≡ 0
-    times_zero x = omega arith
+    ap (λ y. weight u.terms ^ x * y) (zero_at k m vs v (omega arith) (omega arith) e g z) ∙ mul-zero (weight u.terms ^ x)
 
 -- the product is positive where each place's part is
 pub open_product : (k : ℕ) (m : Exponents) (vs : List Polynomial) (v : Polynomial) → k < length m → length vs ≡ length m → v ≡ get_or vs k v
@@ -130,15 +118,9 @@ value_positive k m vs v h l e p g = by (weight v.terms) refl
         zero_weight_at k [] vs v h l e g z = absurd (omega arith)
         zero_weight_at k (x ∷ m) [] v h l e g z = absurd (omega arith)
         zero_weight_at zero (x ∷ m) (u ∷ vs) v h l e g z =
-            ap (λ y. y * product_weight m vs) (zero_power (weight u.terms) x (ap (λ (y : Polynomial). weight y.terms) (sym e) ∙ z) g) ∙ zero_times (product_weight m vs)
-          where
-            zero_times : (x : ℕ) → 0 * x ≡ 0
-            zero_times x = omega arith
+            ap (λ y. y * product_weight m vs) (zero_power (weight u.terms) x (ap (λ (y : Polynomial). weight y.terms) (sym e) ∙ z) g) ∙ zero-mul (product_weight m vs)
         zero_weight_at (suc k) (x ∷ m) (u ∷ vs) v h l e g z =
-            ap (λ y. weight u.terms ^ x * y) (zero_weight_at k m vs v (omega arith) (omega arith) e g z) ∙ times_zero (weight u.terms ^ x)
-          where
-            times_zero : (x : ℕ) → x * 0 ≡ 0
-            times_zero x = omega arith
+            ap (λ y. weight u.terms ^ x * y) (zero_weight_at k m vs v (omega arith) (omega arith) e g z) ∙ mul-zero (weight u.terms ^ x)
     by (suc w) q = omega arith
 
 -- ---- tests of a length

@@ -4,7 +4,9 @@ use Rattle.std.proofs.Common.{sym, ◌∙◌, ap, ap₂, subst, arith}
 use Rattle.std.specs.declared.cmp.Ordering.{Ordering}
 use Rattle.std.specs.declared.cmp.Ordering.TheVariants.{Less, Equal, Greater}
 use Rattle.std.proofs.lemmas.Int.{ints}
+use Rattle.std.proofs.Math.IntN.{*ℤ-zero}
 use Rattle.dc_math.specs.WholeRing.{ring, reads, read_nat, same_form, linear₁}
+use Rattle.dc_math.specs.Integers.{one-*ℤ, *ℤ-one}
 use Rattle.dc_poly.specs.Terms.{Exponents, TermList, power, front, others, mono_value, value, same_mono, coef, Before, Ahead, Canonical, Polynomial}
 use Rattle.dc_poly.specs.Order.{graded, Told}
 use Rattle.dc_poly.proofs.Graded.{graded_told, Ahead-more}
@@ -35,13 +37,10 @@ value-plus [] q xs = omega (arith, ints)
 value-plus (t ∷ p) q xs = let a = value-insert t.mono t.coef (plus p q) xs in let b = value-plus p q xs in omega (arith, ints)
 
 power-+ : (x : ℤ) (a b : ℕ) → power x (a + b) ≡ power x a *ℤ power x b
-power-+ x a zero = ap (power x) (plus-zero a) ∙ at_one (power x a)
+power-+ x a zero = ap (power x) (plus-zero a) ∙ sym (*ℤ-one (power x a))
   where
     plus-zero : (a : ℕ) → a + 0 ≡ a
     plus-zero a = omega arith
-
-    at_one : (y : ℤ) → y ≡ y *ℤ pos 1
-    at_one y = ring (y ∷ []) (λ ρ i. simp (i, read_nat ρ, reads) (same_form _ _ _ refl))
 power-+ x a (suc b) = ap (power x) (plus-suc a b) ∙ turn x _ _ _ (power-+ x a b)
   where
     plus-suc : (a b : ℕ) → a + suc b ≡ suc (a + b)
@@ -52,10 +51,7 @@ power-+ x a (suc b) = ap (power x) (plus-suc a b) ∙ turn x _ _ _ (power-+ x a 
 
 pub mono_value-times : (m k : Exponents) (xs : List ℤ) → mono_value (times_mono m k) xs ≡ mono_value m xs *ℤ mono_value k xs
 mono_value-times [] k xs = omega (arith, ints)
-mono_value-times (e ∷ m) [] xs = at_one (mono_value (e ∷ m) xs)
-  where
-    at_one : (y : ℤ) → y ≡ y *ℤ pos 1
-    at_one y = ring (y ∷ []) (λ ρ i. simp (i, read_nat ρ, reads) (same_form _ _ _ refl))
+mono_value-times (e ∷ m) [] xs = sym (*ℤ-one (mono_value (e ∷ m) xs))
 mono_value-times (e ∷ m) (f ∷ k) xs = ap₂ ◌*ℤ◌ (power-+ (front xs) e f) (mono_value-times m k (others xs)) ∙ four (power (front xs) e) (power (front xs) f) (mono_value m (others xs)) (mono_value k (others xs))
   where
     four : (a b c d : ℤ) → (a *ℤ b) *ℤ (c *ℤ d) ≡ (a *ℤ c) *ℤ (b *ℤ d)
@@ -68,10 +64,7 @@ mono_value-longer (e ∷ m) [] y l = absurd (omega arith)
 mono_value-longer (e ∷ m) (a ∷ x) y l = ap (λ v. power a e *ℤ v) (mono_value-longer m x y (omega arith))
 
 pub value-shifted : (m : Exponents) (c : ℤ) (p : TermList) (xs : List ℤ) → value (shifted m c p) xs ≡ (c *ℤ mono_value m xs) *ℤ value p xs
-value-shifted m c [] xs = none (c *ℤ mono_value m xs)
-  where
-    none : (y : ℤ) → pos 0 ≡ y *ℤ pos 0
-    none y = ring (y ∷ []) (λ ρ i. simp (i, read_nat ρ, reads) (same_form _ _ _ refl))
+value-shifted m c [] xs = sym (*ℤ-zero (c *ℤ mono_value m xs))
 value-shifted m c (t ∷ p) xs =
     shape c t.coef (mono_value m xs) (mono_value t.mono xs) (value p xs) _ _ (mono_value-times m t.mono xs) (value-shifted m c p xs)
   where
@@ -159,22 +152,20 @@ pub plus_is : (p q r : TermList) → Canonical q → Canonical r → ((k : Expon
 plus_is p q r h g e = canonical_unique r (plus p q) g (Canonical-plus p q h) (λ k. e k ∙ sym (coef-plus p q k))
 
 -- ---- constants and variables
-once : (y : ℤ) → pos 1 *ℤ y ≡ y
-once y = ring (y ∷ []) (λ ρ i. simp (i, read_nat ρ, reads) (same_form _ _ _ refl))
 
 only_one : (x y : ℤ) → y ≡ pos 1 → (x *ℤ pos 1) *ℤ y ≡ x
 only_one x y e = rw e (ring (x ∷ []) (λ ρ i. simp (i, read_nat ρ, reads) (same_form _ _ _ refl)))
 
 pub zeros_value : (n : ℕ) (s : List ℤ) → mono_value (zeros n) s ≡ pos 1
 zeros_value zero s = refl
-zeros_value (suc n) s = once _ ∙ zeros_value n (others s)
+zeros_value (suc n) s = one-*ℤ _ ∙ zeros_value n (others s)
 
 pub unit_at_value : (n k : ℕ) (s : List ℤ) → k < n → mono_value (unit_at n k) s ≡ slice_index_or s k (pos 0)
 unit_at_value zero k s h = absurd (omega arith)
 unit_at_value (suc n) zero [] h = only_one _ _ (zeros_value n [])
 unit_at_value (suc n) zero (x ∷ s) h = only_one _ _ (zeros_value n s)
-unit_at_value (suc n) (suc k) [] h = once _ ∙ unit_at_value n k [] (omega arith)
-unit_at_value (suc n) (suc k) (x ∷ s) h = once _ ∙ unit_at_value n k s (omega arith)
+unit_at_value (suc n) (suc k) [] h = one-*ℤ _ ∙ unit_at_value n k [] (omega arith)
+unit_at_value (suc n) (suc k) (x ∷ s) h = one-*ℤ _ ∙ unit_at_value n k s (omega arith)
 
 pub value-constant : (c : ℤ) (n : ℕ) (xs : List ℤ) → value (constant_of c n) xs ≡ c
 value-constant c n xs = value-with_term (zeros n) c [] xs ∙ shape c _ (zeros_value n xs)
@@ -190,7 +181,7 @@ value-variable k n xs h = shape _ _ (unit_at_value n k xs h)
 
 -- ---- composition
 pub value-times_power : (v : TermList) (e : ℕ) (p : TermList) (xs : List ℤ) → value (times_power v e p) xs ≡ power (value v xs) e *ℤ value p xs
-value-times_power v zero p xs = sym (once (value p xs))
+value-times_power v zero p xs = sym (one-*ℤ (value p xs))
 value-times_power v (suc e) p xs =
     value-times v (times_power v e p) xs ∙ shape (value v xs) (power (value v xs) e) (value p xs) _ (value-times_power v e p xs)
   where
@@ -198,10 +189,7 @@ value-times_power v (suc e) p xs =
     shape x y z w h = rw h (ring (x ∷ y ∷ z ∷ []) (λ ρ i j k. simp (i, j, k, reads) (same_form _ _ _ refl)))
 
 pub value-term_at : (n : ℕ) (c : ℤ) (m : Exponents) (vs : List Polynomial) (xs : List ℤ) → value (term_at n c m vs) xs ≡ c *ℤ mono_value m (values vs xs)
-value-term_at n c [] vs xs = value-constant c n xs ∙ by_one c
-  where
-    by_one : (y : ℤ) → y ≡ y *ℤ pos 1
-    by_one y = ring (y ∷ []) (λ ρ i. simp (i, read_nat ρ, reads) (same_form _ _ _ refl))
+value-term_at n c [] vs xs = value-constant c n xs ∙ sym (*ℤ-one c)
 value-term_at n c (e ∷ m) vs xs = by vs (value-term_at n c m (rest_of vs) xs)
   where
     turn : (c y z w : ℤ) → w ≡ c *ℤ z → y *ℤ w ≡ c *ℤ (y *ℤ z)

@@ -1,8 +1,7 @@
 -- A polynomial in n variables of degree at most d in each that is 0 on the grid has only zero coefficients.
-use Rattle.std.specs.Prelude.{◌≡◌, ◌⊎◌, ℕ, zero, suc, ◌+◌, ◌≤◌, ◌<◌, Bool, true, false, cond, ◌&&◌, eqb, T, List, [], ◌∷◌, length, ℤ, pos, ◌+ℤ◌, ◌*ℤ◌, refl}
-use Rattle.std.proofs.Common.{sym, ◌∙◌, ap, ap₂, subst, arith, eqb→eq, inl, inr}
-use Rattle.std.proofs.Math.Dec.{eqb_refl}
-use Rattle.std.proofs.lemmas.Bool.{cases_lt}
+use Rattle.std.specs.Prelude.{◌≡◌, ◌⊎◌, ℕ, zero, suc, ◌+◌, ◌≤◌, ◌<◌, Bool, true, false, cond, ◌&&◌, eqb, List, [], ◌∷◌, length, ℤ, pos, ◌+ℤ◌, ◌*ℤ◌, refl}
+use Rattle.std.proofs.Common.{sym, ◌∙◌, ap, ap₂, subst, arith, inl, inr}
+use Rattle.std.proofs.lemmas.Bool.{cases_lt, eq-eqb, and_parts, ne_eqb}
 use Rattle.std.proofs.lemmas.Int.{ints}
 use Rattle.dc_math.specs.WholeRing.{ring, reads, read_nat, same_form}
 use Rattle.dc_poly.proofs.One.{one_value, Zeros, one_law}
@@ -46,25 +45,11 @@ row-zero j (suc n) x = rw (row-zero (suc j) n x) (ring (x ∷ []) (λ ρ a. simp
 abbrev only : ℕ → ℤ → ℕ → ℤ
 only e v i = cond (eqb e i) v (pos 0)
 
-so : (b : Bool) → T b → b ≡ true
-so true h = refl
-so false h = absurd h
-
-eqb_not : (e i : ℕ) → ¬ (e ≡ i) → eqb e i ≡ false
-eqb_not e i h = by (eqb e i) refl
-  where
-    by : (b : Bool) → eqb e i ≡ b → b ≡ false
-    by true q = absurd (h (eqb→eq e i (subst T (sym q) tt)))
-    by false q = refl
-
-eqb_same : (e : ℕ) → eqb e e ≡ true
-eqb_same e = so (eqb e e) (eqb_refl e)
-
 eqb_other : (e i : ℕ) → e < i → eqb e i ≡ false
-eqb_other e i h = eqb_not e i (λ q. omega arith)
+eqb_other e i h = ne_eqb e i (λ q. omega arith)
 
 eqb_less : (e i : ℕ) → i < e → eqb e i ≡ false
-eqb_less e i h = eqb_not e i (λ q. omega arith)
+eqb_less e i h = ne_eqb e i (λ q. omega arith)
 
 only_past : (e j n : ℕ) (v x : ℤ) → e < j → one_value (row (only e v) j n) x ≡ pos 0
 only_past e j zero v x h = refl
@@ -75,7 +60,7 @@ only_value : (e j d n : ℕ) (v x : ℤ) → e ≡ j + d → d < n → one_value
 only_value e j d zero v x q h = absurd (omega arith)
 only_value e j zero (suc n) v x q h =
     let s : e ≡ j = omega arith in
-    rw (only_past e (suc j) n v x (omega arith)) (subst (λ y. cond (eqb e y) v (pos 0) +ℤ x *ℤ pos 0 ≡ v *ℤ pos 1) s (rw (eqb_same e) (ring (v ∷ x ∷ []) (λ ρ a b. simp (a, b, read_nat ρ, reads) (same_form _ _ _ refl)))))
+    rw (only_past e (suc j) n v x (omega arith)) (subst (λ y. cond (eqb e y) v (pos 0) +ℤ x *ℤ pos 0 ≡ v *ℤ pos 1) s (rw (eq-eqb e e refl) (ring (v ∷ x ∷ []) (λ ρ a b. simp (a, b, read_nat ρ, reads) (same_form _ _ _ refl)))))
 only_value e j (suc d) (suc n) v x q h =
     rw (eqb_less e j (omega arith), only_value e (suc j) d n v x (omega arith) (omega arith))
     (raise v x (power x d))
@@ -150,15 +135,11 @@ row_at f j (suc n) zero z h = rw add_zero' z.0
     add_zero' = omega arith
 row_at f j (suc n) (suc i) z h = ap f (omega arith) ∙ row_at f (suc j) n i z.1 (omega arith)
 
-and_right : (a b : Bool) → (a && b) ≡ true → b ≡ true
-and_right true b h = h
-and_right false b h = cc
-
 same_length : (m k : Exponents) → same_mono m k ≡ true → length m ≡ length k
 same_length [] [] h = refl
 same_length [] (f ∷ k) h = cc
 same_length (e ∷ m) [] h = cc
-same_length (e ∷ m) (f ∷ k) h = ap suc (same_length m k (and_right (eqb e f) (same_mono m k) h))
+same_length (e ∷ m) (f ∷ k) h = ap suc (same_length m k (and_parts (eqb e f) (same_mono m k) h).1)
 
 -- no term has a length other than n, or an exponent above d
 no_length : (n d : ℕ) (k : Exponents) (p : TermList) → Over n d p → ¬ (length k ≡ n) → coef p k ≡ pos 0

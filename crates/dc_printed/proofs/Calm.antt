@@ -1,8 +1,8 @@
 -- Where no expression and no whole condition has more than 64 operators, no front of the tokens has them in a row.
-use Rattle.std.proofs.Common.{◌≡◌, ℕ, zero, suc, ◌+◌, ◌≤◌, Bool, true, false, ◌&&◌, ◌||◌, leb, List, [], ◌∷◌, ◌++◌, take, Option, Some, None, refl, sym, ap, subst, ◌∙◌, arith, append_assoc}
+use Rattle.std.proofs.Common.{◌≡◌, ℕ, zero, suc, ◌+◌, ◌≤◌, Bool, true, false, ◌&&◌, ◌||◌, List, [], ◌∷◌, ◌++◌, take, Option, Some, None, refl, sym, ap, subst, ◌∙◌, arith, append_assoc}
 use Rattle.std.specs.Prelude.{max, fold, if◌then◌else◌}
-use Rattle.std.proofs.lemmas.Bool.Decides.{nat_tests}
 use Rattle.std.specs.List.{AllByRecursion}
+use Rattle.std.proofs.lemmas.Bool.{leb-true}
 use Rattle.dc_tokens.specs.declared.token.TokenKind.{TokenKind}
 use Rattle.dc_tokens.specs.declared.token.TokenKind.TheVariants as k
 use Rattle.dc_tokens.specs.declared.token.Token.{Token}
@@ -12,6 +12,7 @@ use Rattle.dc_grammar.specs.Grammar.{ref, seq, many, tok, opt, has, Tree, Derive
 use Rattle.dc_grammar.specs.Depth.{operands, operators_with}
 use Rattle.dc_grammar.specs.Language.{language, source, names, expr, cond, stmt, block, assigned, choice}
 use Rattle.dc_grammar.proofs.AllKinds.{one_kind}
+use Rattle.dc_grammar.proofs.Standing.{run-append}
 use Rattle.dc_syntax.specs.declared.tree.Cond.{Cond}
 use Rattle.dc_syntax.specs.declared.tree.Stmt.{Stmt}
 use Rattle.dc_descent.specs.Trees.{expr_of, cond_of}
@@ -30,10 +31,6 @@ run n ts = fold operators_with n ts
 abbrev pub most : ℕ → List Token → ℕ
 most n [] = n
 most n (t ∷ ts) = max n (most (operators_with n t) ts)
-
-run-append : (n : ℕ) (us vs : List Token) → run n (us ++ vs) ≡ run (run n us) vs
-run-append n [] vs = refl
-run-append n (t ∷ us) vs = run-append (operators_with n t) us vs
 
 n-≤-most : (n : ℕ) (ts : List Token) → n ≤ most n ts
 n-≤-most n [] = omega arith
@@ -159,16 +156,13 @@ around o c us h g =
 around_inside : (o c : Token) (us : List Token) → Inside o → Inside c → AllByRecursion Inside us → AllByRecursion Inside (o ∷ (us ++ c ∷ []))
 around_inside o c us h g e = (h, each_both Inside us (c ∷ []) e (g, tt))
 
-limited_leb : (n : ℕ) → leb n 64 ≡ true → n ≤ 64
-limited_leb n h = grind (arith, nat_tests)
-
 module _ (p : Token → ℕ) where
   -- an expression within its limit
   few_expr : {us : List Token} {a : Tree Token} → Derives language (ref expr) us a → is_limited (expr_of p a) ≡ true → ops us ≤ 64
   few_expr {us} {a} d h =
       let f = expr_facts 0 p d in
       let e = f.counts in
-      let l = limited_leb (limits.operators (expr_of p a)) (and_right (literals_fit (expr_of p a)) _ h) in
+      let l = leb-true (limits.operators (expr_of p a)) 64 (and_right (literals_fit (expr_of p a)) _ h) in
       omega arith
 
   inside_expr : {us : List Token} {a : Tree Token} → Derives language (ref expr) us a → AllByRecursion Inside us
@@ -178,7 +172,7 @@ module _ (p : Token → ℕ) where
   few_cond {us} {a} d h =
       let f = cond_facts 0 p d in
       let e = f.counts in
-      let l = limited_leb (limits.cond_operators (cond_of p a)) (and_right (cond_literals_fit (cond_of p a)) _ h) in
+      let l = leb-true (limits.cond_operators (cond_of p a)) 64 (and_right (cond_literals_fit (cond_of p a)) _ h) in
       omega arith
 
   inside_cond : {us : List Token} {a : Tree Token} → Derives language (ref cond) us a → AllByRecursion Inside us

@@ -4,9 +4,9 @@ use Rattle.std.specs.Prelude.{fold}
 use Rattle.std.specs.declared.option.Option.{Option}
 use Rattle.std.specs.Option.{unwrap_or}
 use Rattle.std.specs.Str.{bytes_eq}
-use Rattle.std.proofs.lemmas.Bool.Decides.{nat_tests}
 use Rattle.std.proofs.lemmas.List.Quantifiers.{position-Some}
 use Rattle.std.specs.List.{AllByRecursion}
+use Rattle.std.proofs.lemmas.Bool.{leb-true, leb-false}
 use Rattle.dc_tokens.specs.declared.token.Token.{Token}
 use Rattle.dc_tokens.specs.Texts.{Tokens}
 use Rattle.dc_grammar.specs.Grammar.{Tree, Derives, ref}
@@ -23,18 +23,12 @@ use Rattle.dc_parse.proofs.Tame.{good_stmts}
 use Rattle.dc_printed.specs.Laws.{HasFew}
 use Rattle.dc_printed.proofs.Calm.{front_most, calm_source}
 
-at_most : (n : ℕ) → leb n 64 ≡ true → n ≤ 64
-at_most n e = grind (arith, nat_tests)
-
-above : (n : ℕ) → leb n 64 ≡ false → 64 < n
-above n e = grind (arith, nat_tests)
-
 few_open : (ts : List Token) → (IsDeep ts → ⊥) → open_brackets ts ≤ 64
 few_open ts h = go (leb (open_brackets ts) 64) refl
   where
     go : (b : Bool) → leb (open_brackets ts) 64 ≡ b → open_brackets ts ≤ 64
-    go true e = at_most (open_brackets ts) e
-    go false e = absurd (h (inl (above (open_brackets ts) e)))
+    go true e = leb-true (open_brackets ts) 64 e
+    go false e = absurd (h (inl (leb-false (open_brackets ts) 64 e)))
 
 -- each name has a place below one more than there are names
 placed : (names : List (List ℕ)) (s : List ℕ) (o : Option ℕ) → place_of names s ≡ o → unwrap_or o 0 < suc (length names)

@@ -1,6 +1,7 @@
 -- What the parser gives fits, so that it has a text.
 use Rattle.std.specs.List.{AllByRecursion}
-use Rattle.std.proofs.Common.{◌≡◌, ℕ, Bool, true, false, ◌&&◌, ltb, List, [], ◌∷◌, map, length, refl, sym, ◌∙◌}
+use Rattle.std.proofs.Common.{◌≡◌, ℕ, Bool, true, ◌&&◌, ltb, List, [], ◌∷◌, map, length, refl, sym, ◌∙◌}
+use Rattle.std.proofs.lemmas.Bool.{and_from}
 use Rattle.dc_tokens.proofs.Front.{and_left, and_right}
 use Rattle.dc_syntax.specs.declared.tree.Expr.{Expr}
 use Rattle.dc_syntax.specs.declared.tree.Cond.{Cond}
@@ -19,17 +20,13 @@ use Rattle.dc_parse.proofs.Folds.{at_assign, at_any_of, at_between, at_tick, at_
 use Rattle.dc_printed.specs.Fits.{IsName, AreNames, IsWritable, fits, cond_fits, stmt_fits, stmts_fit}
 use Rattle.dc_printed.proofs.StmtParts.{fits-Skip, fits-Assign, fits-AnyOf, fits-Between, fits-Tick, fits-Assume, fits-If, fits-IfAny, fits-While, fits-WhileAny}
 
-both : (a b : Bool) → a ≡ true → b ≡ true → (a && b) ≡ true
-both true b h g = g
-both false b h g = absurd cc
-
 module _ (n : ℕ) where
   -- what is below and limited fits
   one_fits : (e : Expr) → is_below n e ≡ true → is_limited e ≡ true → fits n e ≡ true
-  one_fits e f l = both _ _ f (and_left _ _ l)
+  one_fits e f l = and_from _ _ f (and_left _ _ l)
 
   one_cond_fits : (c : Cond) → cond_is_below n c ≡ true → cond_is_limited c ≡ true → cond_fits n c ≡ true
-  one_cond_fits c f l = both _ _ f (and_left _ _ l)
+  one_cond_fits c f l = and_from _ _ f (and_left _ _ l)
 
   abbrev StmtFits : Stmt → Type 0
   StmtFits S = statement_passes n S ≡ true → stmt_is_limited S ≡ true → stmt_fits n S ≡ true
@@ -50,20 +47,20 @@ module _ (n : ℕ) where
 
   all_fit : (A : List Stmt) → AllByRecursion StmtFits A → whole.each (map (statement_passes n) A) ≡ true → whole.each (map stmt_is_limited A) ≡ true → stmts_fit n A ≡ true
   all_fit [] h f l = refl
-  all_fit (S ∷ A) h f l = both _ _ (h.0 (and_left _ _ f) (and_left _ _ l)) (all_fit A h.1 (and_right _ _ f) (and_right _ _ l))
+  all_fit (S ∷ A) h f l = and_from _ _ (h.0 (and_left _ _ f) (and_left _ _ l)) (all_fit A h.1 (and_right _ _ f) (and_right _ _ l))
 
   stmt_layer : (L : Stmt-F Stmt) → EachStmt StmtFits L → StmtFits (roll-Stmt L)
   unfolding roll-Stmt denote.Hole.Carrier.roll
   stmt_layer H.Skip h f l = fits-Skip n
   stmt_layer (H.Assign i e) h f l =
       let z = first_of _ _ _ (sym (at_assign Bool (pass_step n) i e) ∙ f) in
-      fits-Assign n i e ∙ both _ _ (and_left _ _ z) (one_fits e (and_right _ _ z) (and_left _ _ (sym (at_assign Bool limits_step i e) ∙ l)))
+      fits-Assign n i e ∙ and_from _ _ (and_left _ _ z) (one_fits e (and_right _ _ z) (and_left _ _ (sym (at_assign Bool limits_step i e) ∙ l)))
   stmt_layer (H.AnyOf i) h f l = fits-AnyOf n i ∙ first_of _ _ _ (sym (at_any_of Bool (pass_step n) i) ∙ f)
   stmt_layer (H.Between i a b) h f l =
       let z : (ltb i n && is_below n a && is_below n b) ≡ true = first_of _ _ _ (sym (at_between Bool (pass_step n) i a b) ∙ f) in
       let w = and_left _ _ z in
       let y : (is_limited a && is_limited b) ≡ true = and_left _ _ (sym (at_between Bool limits_step i a b) ∙ l) in
-      fits-Between n i a b ∙ both _ _ (and_left _ _ w) (both _ _ (one_fits a (and_right _ _ w) (and_left _ _ y)) (one_fits b (and_right _ _ z) (and_right _ _ y)))
+      fits-Between n i a b ∙ and_from _ _ (and_left _ _ w) (and_from _ _ (one_fits a (and_right _ _ w) (and_left _ _ y)) (one_fits b (and_right _ _ z) (and_right _ _ y)))
   stmt_layer (H.Tick e) h f l = fits-Tick n e ∙ one_fits e (first_of _ _ _ (sym (at_tick Bool (pass_step n) e) ∙ f)) (and_left _ _ (sym (at_tick Bool limits_step e) ∙ l))
   stmt_layer (H.Assume c) h f l = fits-Assume n c ∙ one_cond_fits c (first_of _ _ _ (sym (at_assume Bool (pass_step n) c) ∙ f)) (and_left _ _ (sym (at_assume Bool limits_step c) ∙ l))
   stmt_layer (H.If c A B) h f l =
@@ -71,15 +68,15 @@ module _ (n : ℕ) where
       let w = passes_inside (H.If c (map (statement_passes n) A) (map (statement_passes n) B)) z in
       let y = sym (at_if Bool limits_step c A B) ∙ l in
       let x = limited_inside (H.If c (map stmt_is_limited A) (map stmt_is_limited B)) y in
-      fits-If n c A B ∙ both _ _ (one_cond_fits c (first_of _ _ _ z) (and_left _ _ y)) (both _ _ (all_fit A h.0 (and_left _ _ w) (and_left _ _ x)) (all_fit B h.1 (and_right _ _ w) (and_right _ _ x)))
+      fits-If n c A B ∙ and_from _ _ (one_cond_fits c (first_of _ _ _ z) (and_left _ _ y)) (and_from _ _ (all_fit A h.0 (and_left _ _ w) (and_left _ _ x)) (all_fit B h.1 (and_right _ _ w) (and_right _ _ x)))
   stmt_layer (H.IfAny A B) h f l =
       let w = passes_inside (H.IfAny (map (statement_passes n) A) (map (statement_passes n) B)) (sym (at_if_any Bool (pass_step n) A B) ∙ f) in
       let x = limited_inside (H.IfAny (map stmt_is_limited A) (map stmt_is_limited B)) (sym (at_if_any Bool limits_step A B) ∙ l) in
-      fits-IfAny n A B ∙ both _ _ (all_fit A h.0 (and_left _ _ w) (and_left _ _ x)) (all_fit B h.1 (and_right _ _ w) (and_right _ _ x))
+      fits-IfAny n A B ∙ and_from _ _ (all_fit A h.0 (and_left _ _ w) (and_left _ _ x)) (all_fit B h.1 (and_right _ _ w) (and_right _ _ x))
   stmt_layer (H.While c A) h f l =
       let z = sym (at_while Bool (pass_step n) c A) ∙ f in
       let y = sym (at_while Bool limits_step c A) ∙ l in
-      fits-While n c A ∙ both _ _ (one_cond_fits c (first_of _ _ _ z) (and_left _ _ y)) (all_fit A h (passes_inside (H.While c (map (statement_passes n) A)) z) (limited_inside (H.While c (map stmt_is_limited A)) y))
+      fits-While n c A ∙ and_from _ _ (one_cond_fits c (first_of _ _ _ z) (and_left _ _ y)) (all_fit A h (passes_inside (H.While c (map (statement_passes n) A)) z) (limited_inside (H.While c (map stmt_is_limited A)) y))
   stmt_layer (H.WhileAny A) h f l =
       fits-WhileAny n A ∙ all_fit A h (passes_inside (H.WhileAny (map (statement_passes n) A)) (sym (at_while_any Bool (pass_step n) A) ∙ f)) (limited_inside (H.WhileAny (map stmt_is_limited A)) (sym (at_while_any Bool limits_step A) ∙ l))
 
@@ -89,7 +86,7 @@ module _ (n : ℕ) where
 
   passes_each : (A : List Stmt) → all_pass n A ≡ true → whole.each (map (statement_passes n) A) ≡ true
   passes_each [] h = refl
-  passes_each (S ∷ A) h = both _ _ (and_left _ _ h) (passes_each A (and_right _ _ h))
+  passes_each (S ∷ A) h = and_from _ _ (and_left _ _ h) (passes_each A (and_right _ _ h))
 
   pub body_fits : (A : List Stmt) → all_pass n A ≡ true → all_limited A ≡ true → stmts_fit n A ≡ true
   body_fits A f l = all_fit A (every A) (passes_each A f) l

@@ -1,9 +1,9 @@
 -- What the parser reads from a text it reads from the printed text again.
 use Rattle.std.proofs.Common.{◌≡◌, ℕ, ◌+◌, ◌<◌, ◌≤◌, Bool, true, false, leb, List, [], ◌∷◌, ◌++◌, map, length, take, drop, get_or, Option, Some, None, refl, sym, ap, subst, ◌∙◌, arith, inl, inr}
 use Rattle.std.specs.Prelude.{if◌then◌else◌, fold}
-use Rattle.std.proofs.lemmas.Bool.Decides.{nat_tests}
 use Rattle.std.specs.Option.{unwrap_or, option_or, option_map}
 use Rattle.std.specs.List.{AllByRecursion}
+use Rattle.std.proofs.lemmas.Bool.{leb-true, leb-false}
 use Rattle.dc_tokens.specs.declared.token.TokenKind.TheVariants as k
 use Rattle.dc_tokens.specs.declared.token.Token.{Token}
 use Rattle.dc_tokens.proofs.Readings.{one_reading}
@@ -167,15 +167,9 @@ shallow_again text p w has sh mine g =
     not_deep : (ts : List Token) (j : ℕ) → (IsDeep (take j ts) → ⊥) → fold brackets_with 0 (take j ts) ≤ 64
     not_deep ts j h = go (leb (fold brackets_with 0 (take j ts)) 64) refl
       where
-        yes : (n : ℕ) → leb n 64 ≡ true → n ≤ 64
-        yes n e = grind (arith, nat_tests)
-
-        no : (n : ℕ) → leb n 64 ≡ false → 64 < n
-        no n e = grind (arith, nat_tests)
-
         go : (b : Bool) → leb (fold brackets_with 0 (take j ts)) 64 ≡ b → fold brackets_with 0 (take j ts) ≤ 64
-        go true e = yes _ e
-        go false e = absurd (h (inl (let q = unfold_open (take j ts) in let r = no (fold brackets_with 0 (take j ts)) e in omega arith)))
+        go true e = leb-true _ 64 e
+        go false e = absurd (h (inl (let q = unfold_open (take j ts) in let r = leb-false (fold brackets_with 0 (take j ts)) 64 e in omega arith)))
 
     both_low : (ts : List Token) (j : ℕ) → fold brackets_with 0 (take j ts) ≤ 64 → fold operators_with 0 (take j ts) ≤ 64 → IsDeep (take j ts) → ⊥
     both_low ts j a b (inl d) = (let q = unfold_open (take j ts) in omega arith)

@@ -1,6 +1,5 @@
 -- The text of a procedure reads as the procedure.
 use Rattle.std.proofs.Common.{◌≡◌, ℕ, zero, suc, ◌+◌, ◌<◌, Bool, true, false, List, [], ◌∷◌, ◌++◌, map, length, take, drop, get_or, Some, refl, sym, ap, subst, ◌∙◌, arith, append_assoc, append-nil}
-use Rattle.std.proofs.lemmas.Slice.Eq.{bytes_eq-Decides}
 use Rattle.std.proofs.lemmas.List.{take-append-drop, length-take, map-append, length-map}
 use Rattle.std.specs.Option.{unwrap_or}
 use Rattle.std.specs.Str.{bytes_eq}
@@ -27,6 +26,7 @@ use Rattle.dc_printed.proofs.Signs as sign
 use Rattle.dc_printed.proofs.Says.{Says, says_word}
 use Rattle.dc_printed.proofs.Exprs.{Finds, later, here}
 use Rattle.dc_printed.proofs.Stmts.{◌▷◌, sign_at, spaced_at, lined_at, ended, reworded, named, chosen, passed, nothing_says, name_says, at_offset, printed_stmts}
+use Rattle.dc_parse.proofs.Equal.{equal}
 
 -- ---- lists of names
 
@@ -139,9 +139,6 @@ after_locals ls b = simp append_assoc refl
 
 -- ---- the places of names
 
-bytes_equal : (a b : List ℕ) → bytes_eq a b ≡ true → a ≡ b
-bytes_equal a b h = (bytes_eq-Decides a b).0 h
-
 pub different_before : (ns : List (List ℕ)) (i : ℕ) → AreDifferent ns → i < length ns → NoneBefore ns (get_or ns i []) i
 different_before ns i d l j h = not_equal (get_or ns i []) (get_or ns j []) (λ e. d j i h l (sym e))
   where
@@ -149,7 +146,7 @@ different_before ns i d l j h = not_equal (get_or ns i []) (get_or ns j []) (λ 
     not_equal a b f = go (bytes_eq a b) refl
       where
         go : (z : Bool) → bytes_eq a b ≡ z → bytes_eq a b ≡ false
-        go true e = absurd (f (bytes_equal a b e))
+        go true e = absurd (f (equal a b e))
         go false e = e
 
 finds_names : (whole : List ℕ) (ns : List (List ℕ)) → AreDifferent ns → Finds (place_in whole ns) whole ns

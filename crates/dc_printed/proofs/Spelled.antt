@@ -3,6 +3,7 @@ use Rattle.std.proofs.Common.{◌≡◌, ℕ, zero, suc, ◌+◌, ◌-◌, Bool,
 use Rattle.std.specs.Prelude.{if◌then◌else◌}
 use Rattle.std.specs.List.{AllByRecursion}
 use Rattle.std.proofs.lemmas.List.{map-append}
+use Rattle.std.proofs.lemmas.Option.{same_Some}
 use Rattle.dc_tokens.specs.declared.token.TokenKind.{TokenKind}
 use Rattle.dc_tokens.specs.declared.token.TokenKind.TheVariants as k
 use Rattle.dc_tokens.specs.declared.token.Token.{Token}
@@ -63,11 +64,8 @@ pub spelled_name : (w : List ℕ) → kind_of w ≡ Some k.Name → IsName w
 unfolding kind_of
 spelled_name w h = go (is_word w) (is_number w) refl h
   where
-    some_same : (i j : TokenKind) → Some i ≡ Some j → i ≡ j
-    some_same i j e = cc
-
     go : (a b : Bool) → is_word w ≡ a → (if a then Some (word_kind w) else (if b then Some k.Number else sign_kind w)) ≡ Some k.Name → IsName w
-    go true b e f = record { word = e; no_keyword = some_same (word_kind w) k.Name f }
+    go true b e f = record { word = e; no_keyword = same_Some (word_kind w) k.Name f }
     go false true e f = cc
     go false false e f = let s = sign_no_name w in absurd (let n = s.no in n f)
 

@@ -22,6 +22,7 @@ use Rattle.dc_affine.specs.declared.form.FormFault.{FormFault}
 use Rattle.dc_affine.specs.Forms.{Formed}
 use Rattle.dc_affine.specs.Table.{Fact, fact as fact_of, relation, crossed, facts_step, facts_of}
 use Rattle.dc_affine.specs.Atoms.{comparison_step, comparison_fault, dnf_fault, atom_of, at_least, conjunctions_of}
+use Rattle.dc_affine.proofs.FormLaws.{formed-Num, formed-Var}
 use Rattle.dc_poly.specs.Sums.{plus, negated}
 use Rattle.dc_parse.specs.Outcomes.{says, first_of, tree}
 use Rattle.dc_parse.specs.Judges.{form_at, judge_condition}
@@ -33,7 +34,7 @@ use Rattle.dc_printed.proofs.Words.{Reads, joined, token_of, gap_read}
 use Rattle.dc_printed.proofs.Says.{says_number, says_word, says_long}
 use Rattle.dc_printed.proofs.Signs as sign
 use Rattle.dc_sample_laws.specs.Procedures.{sample_condition, sample_cases}
-use Rattle.dc_sample_laws.proofs.Forms.{formed_num, formed_var, sides}
+use Rattle.dc_sample_laws.proofs.Forms.{sides}
 
 abbrev names : List (List ℕ)
 names = codes "n" ∷ []
@@ -148,10 +149,10 @@ abbrev high : Cond
 high = Cmp (Var 0) Le (Num 50)
 
 low_faultless : comparison_fault 1 low ≡ None
-low_faultless = at_cmp (Option FormFault) (comparison_step 1) (Num 0) Le (Var 0) ∙ (λ j. sides (formed_num 1 0 j) (formed_var 1 0 j))
+low_faultless = at_cmp (Option FormFault) (comparison_step 1) (Num 0) Le (Var 0) ∙ (λ j. sides (formed-Num 1 0 j) (formed-Var 1 0 j))
 
 high_faultless : comparison_fault 1 high ≡ None
-high_faultless = at_cmp (Option FormFault) (comparison_step 1) (Var 0) Le (Num 50) ∙ (λ j. sides (formed_var 1 0 j) (formed_num 1 50 j))
+high_faultless = at_cmp (Option FormFault) (comparison_step 1) (Var 0) Le (Num 50) ∙ (λ j. sides (formed-Var 1 0 j) (formed-Num 1 50 j))
 
 both_faultless : comparison_fault 1 (And low high) ≡ None
 both_faultless = at_and (Option FormFault) (comparison_step 1) low high ∙ (λ j. option_or (low_faultless j) (high_faultless j))
@@ -174,7 +175,7 @@ gap_atom a b = at_least 1 (plus a.terms (negated b.terms)) 0
 cases_are : conjunctions_of 1 (And low high) false ≡ sample_cases
 cases_are =
     ap (map (map (atom_of 1))) both_facts
-    ∙ (λ j. (gap_atom (formed_var 1 0 j) (formed_num 1 0 j) ∷ gap_atom (formed_num 1 50 j) (formed_var 1 0 j) ∷ []) ∷ [])
+    ∙ (λ j. (gap_atom (formed-Var 1 0 j) (formed-Num 1 0 j) ∷ gap_atom (formed-Num 1 50 j) (formed-Var 1 0 j) ∷ []) ∷ [])
 
 -- ---- the whole
 

@@ -9,11 +9,12 @@ use Rattle.dc_syntax.specs.declared.tree.Cond.{Cond}
 use Rattle.dc_syntax.specs.declared.tree.Cond.TheVariants.{Cmp}
 use Rattle.dc_syntax.specs.declared.tree.Cond.TheOpen as G
 use Rattle.dc_syntax.specs.declared.tree.Stmt.TheVariants.{Assign, Tick}
-use Rattle.dc_poly.specs.Sums.{plus, negated, constant_of, variable_of}
+use Rattle.dc_poly.specs.Sums.{plus, negated, constant_of}
 use Rattle.dc_affine.specs.declared.form.FormFault.{FormFault}
-use Rattle.dc_affine.specs.Forms.{Formed, judged, form_step, formed, fault_of}
+use Rattle.dc_affine.specs.Forms.{Formed, judged, form_step, fault_of}
 use Rattle.dc_affine.specs.Table.{Fact, facts_step, facts_of}
 use Rattle.dc_affine.specs.Atoms.{gap_fault, comparison_step, comparison_fault, dnf_fault}
+use Rattle.dc_affine.proofs.FormLaws.{formed-Num, formed-Var}
 use Rattle.dc_program.specs.Limits.{literals_step, literals_fit, cond_literals_step, cond_literals_fit, operators_step, operators, cond_operators_step, cond_operators, is_limited, cond_is_limited, limits_step, stmt_is_limited, all_limited}
 use Rattle.dc_parse.specs.Forms.{faults_step, faults_in, all_faults, first_form, tail_of}
 use Rattle.dc_parse.proofs.Folds.{at_num, at_var, at_add, at_cmp, at_assign, at_tick, at_while}
@@ -32,14 +33,8 @@ test = Cmp (Var 1) Lt (Var 0)
 
 -- ---- faults
 
-pub formed_num : (n c : ℕ) → formed n (Num c) ≡ judged None (constant_of (pos c) n)
-formed_num n c = at_num Formed (form_step n) c
-
-pub formed_var : (n k : ℕ) → formed n (Var k) ≡ judged None (variable_of k n)
-formed_var n k = at_var Formed (form_step n) k
-
 num_faultless : (c : ℕ) → c ≤ 2147483647 → fault_of 2 (Num c) ≡ None
-num_faultless c h = ap (λ (f : Formed). f.fault) (formed_num 2 c) ∙ go c h
+num_faultless c h = ap (λ (f : Formed). f.fault) (formed-Num 2 c) ∙ go c h
   where
     go : (c : ℕ) → c ≤ 2147483647 → (judged None (constant_of (pos c) 2)).fault ≡ None
     go zero h = refl
@@ -50,14 +45,14 @@ abbrev sum_fault : Formed → Formed → Option FormFault
 sum_fault a b = (judged (option_or a.fault b.fault) (plus a.terms b.terms)).fault
 
 next_faultless : fault_of 2 (Add (Var 1) (Num 1)) ≡ None
-next_faultless = ap (λ (f : Formed). f.fault) (at_add Formed (form_step 2) (Var 1) (Num 1)) ∙ (λ j. sum_fault (formed_var 2 1 j) (formed_num 2 1 j))
+next_faultless = ap (λ (f : Formed). f.fault) (at_add Formed (form_step 2) (Var 1) (Num 1)) ∙ (λ j. sum_fault (formed-Var 2 1 j) (formed-Num 2 1 j))
 
 -- of the sides of a comparison
 abbrev pub sides : Formed → Formed → Option FormFault
 sides a b = option_or a.fault (option_or b.fault (gap_fault (plus a.terms (negated b.terms))))
 
 compared_faultless : comparison_fault 2 test ≡ None
-compared_faultless = at_cmp (Option FormFault) (comparison_step 2) (Var 1) Lt (Var 0) ∙ (λ j. sides (formed_var 2 1 j) (formed_var 2 0 j))
+compared_faultless = at_cmp (Option FormFault) (comparison_step 2) (Var 1) Lt (Var 0) ∙ (λ j. sides (formed-Var 2 1 j) (formed-Var 2 0 j))
 
 facts_cmp : (negated : Bool) → facts_of test negated ≡ facts_step (G.Cmp (Var 1) Lt (Var 0)) negated
 facts_cmp negated = ap (λ (f : Bool → List (List Fact)). f negated) (at_cmp (Bool → List (List Fact)) facts_step (Var 1) Lt (Var 0))

@@ -1,44 +1,35 @@
 -- Two programs whose counts are within their limits have one analysis.
-use Rattle.std.specs.Prelude.{◌≡◌, ◌⊎◌, ℕ, Bool, true, false, ltb, if◌then◌else◌, List, ◌∷◌, map, Option, Some, None}
+use Rattle.std.specs.Prelude.{◌≡◌, ℕ, Bool, true, false, ltb, if◌then◌else◌, List, ◌∷◌, map, Option, Some, None}
 use Rattle.std.specs.Option.{option_and_then}
-use Rattle.std.proofs.Common.{refl, sym, ◌∙◌, ap, ap₂, subst, inl, inr}
+use Rattle.std.proofs.Common.{refl, sym, ◌∙◌, ap, ap₂, subst}
 use Rattle.dc_syntax.specs.declared.tree.Proc.{Proc}
 use Rattle.dc_syntax.specs.declared.tree.Side.{Side}
 use Rattle.dc_syntax.specs.declared.tree.Count.TheVariants.{Locations, Edges}
 use Rattle.dc_affine.specs.declared.atom.Atom.{Atom}
 use Rattle.dc_system.specs.declared.edges.System.{System}
 use Rattle.dc_system.specs.declared.edges.SystemFault.TheVariants as system
-use Rattle.dc_system.specs.Systems.{system_of, size_fault, counted, locations_of, edges_of}
+use Rattle.dc_system.specs.Systems.{system_of, size_fault, locations_of}
 use Rattle.dc_system.proofs.Shape.{shaped}
 use Rattle.dc_system.proofs.OneFold.{one_folded}
 use Rattle.dc_system.proofs.EveryFold.{every_folded}
-use Rattle.dc_points.specs.Points.{IsDead}
 use Rattle.dc_points.specs.Flags.{IsFlag}
 use Rattle.dc_entail.specs.Asked.{Asked}
 use Rattle.dc_rows.specs.declared.kinds.Candidates.{Candidates}
 use Rattle.dc_families.specs.Graphs.{Graph, graph_of}
 use Rattle.dc_families.specs.Families.{Family, everything}
 use Rattle.dc_families.specs.Printed.{Question, ArePrinted}
-use Rattle.dc_families.proofs.Lists.{differ}
-use Rattle.dc_families.proofs.Decisions.{decide_dead}
+use Rattle.dc_families.proofs.Decisions.{has_flag}
 use Rattle.dc_families.proofs.Prunes.{has_printed, one_printed_each}
 use Rattle.dc_greatest.proofs.Ends.{flag_same, flags_same, has_flags, rounds_end, one_session, rounds_reach_greatest}
 use Rattle.dc_invariant.specs.Keeps.{kept_atoms, exit_atoms, AreLive}
-use Rattle.dc_session.specs.Session.{Input, candidates_for, Part, IsPart, Analysis, IsAnalysis, session_of}
-use Rattle.dc_session.specs.Refusals.{Excess, first_of, of_system, system_excess, early_excess}
+use Rattle.dc_session.specs.Session.{candidates_for, Part, IsPart, Analysis, session_of}
+use Rattle.dc_session.specs.Refusals.{first_of, of_system, system_excess}
 use Rattle.dc_session.specs.Laws.{HasAnalysis, OneAnalysis, AsksOne, AreOfGreatest}
 
 -- ---- parts
 part_of : List Asked → Family → List (List Question) → List (List Atom) → List Bool → Bool → Part
 part_of rounds family questions printed edges_live exit_live =
     record { rounds = rounds; family = family; questions = questions; printed = printed; edges_live = edges_live; exit_live = exit_live }
-
-has_flag : (h : List Atom) → (b : Bool) × IsFlag b h
-has_flag h = by (decide_dead h)
-  where
-    by : IsDead h ⊎ (¬ IsDead h) → (b : Bool) × IsFlag b h
-    by (inl e) = (false, ((λ t. differ (sym t)), (λ n. absurd (n e))))
-    by (inr e) = (true, ((λ t. e), (λ n. refl)))
 
 module _ (side : Side) (s : Graph) (cases : List (List Atom)) (live : List Bool) (c : Candidates) where
   has_part : (p : Part) × IsPart side s cases live c p
@@ -106,7 +97,7 @@ within side true d m n e = absurd (cc)
 within side false true m n e = absurd (cc)
 within side false false m n e = refl
 
-system_within : (side : Side) (p : Proc) → system_excess side p ≡ None → size_fault p ≡ None
+pub system_within : (side : Side) (p : Proc) → system_excess side p ≡ None → size_fault p ≡ None
 system_within side p e = within side (ltb 128 (locations_of p)) _ _ _ e
 
 pub has_analysis : HasAnalysis

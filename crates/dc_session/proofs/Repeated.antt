@@ -1,6 +1,6 @@
 -- The certificate that is made has the atoms of the analysis, and says rightly what is live.
 use Rattle.std.specs.Prelude.{◌≡◌, ℕ, Bool, List, [], ◌∷◌, map}
-use Rattle.std.proofs.Common.{refl, sym, ◌∙◌, ap, ap₂}
+use Rattle.std.proofs.Common.{refl, ◌∙◌, ap, ap₂}
 use Rattle.dc_affine.specs.declared.atom.Atom.{Atom}
 use Rattle.dc_system.specs.declared.edges.Edge.{Edge}
 use Rattle.dc_system.specs.declared.edges.System.{System}
@@ -25,7 +25,7 @@ edge_flags_are s printed budget (e ∷ es) (b ∷ flags) [] f h = absurd h
 edge_flags_are s printed budget (e ∷ es) (b ∷ flags) (x ∷ xs) f h =
     ap₂ ◌∷◌ h.0.flag (edge_flags_are s printed budget es flags xs f.1 h.1)
 
-case_flags_are : (params budget : ℕ) (cases : List (List Atom)) (live : List Bool) (ws : List Liveness)
+pub case_flags_are : (params budget : ℕ) (cases : List (List Atom)) (live : List Bool) (ws : List Liveness)
     → AreCaseLines params budget cases live ws → map is_live ws ≡ live
 case_flags_are params budget [] [] [] h = refl
 case_flags_are params budget [] [] (w ∷ ws) h = absurd h

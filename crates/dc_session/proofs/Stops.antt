@@ -1,5 +1,5 @@
 -- An analysis has one first refusal or none, and then one certificate.
-use Rattle.std.specs.Prelude.{◌≡◌, ◌⊎◌, ℕ, Bool, true, cond, List, [], ◌∷◌, ◌++◌, Option, Some, None}
+use Rattle.std.specs.Prelude.{◌≡◌, ◌⊎◌, ℕ, cond, List, [], ◌∷◌, ◌++◌, Option, Some, None}
 use Rattle.std.proofs.Common.{refl, sym, ◌∙◌, ap, ap₂, subst, inl, inr, arith}
 use Rattle.dc_math.specs.Rational.{ℚ}
 use Rattle.dc_syntax.specs.declared.tree.Proc.{Proc}
@@ -28,7 +28,7 @@ use Rattle.dc_session.specs.declared.fault.AnalyseFault.{AnalyseFault}
 use Rattle.dc_session.specs.declared.fault.AnalyseFault.TheVariants.{TooLarge, Past128, Budget, NoMemory}
 use Rattle.dc_session.specs.Session.{Input, Analysis, IsAnalysis, early_asked, main_asked, session_of}
 use Rattle.dc_session.specs.Made.{IsMade}
-use Rattle.dc_session.specs.Refusals.{Excess, early_excess, main_excess, IsBegun, IsThrough, Exceeds, RefusesAt, FoldsPast, IsRefusal}
+use Rattle.dc_session.specs.Refusals.{Excess, early_excess, main_excess, IsThrough, Exceeds, RefusesAt, FoldsPast, IsRefusal}
 use Rattle.dc_session.specs.Laws.{ThroughOrRefused, OneRefusal, OneCertificate, CertificatesExclude}
 use Rattle.dc_session.proofs.Analyses.{has_analysis, one_analysis}
 use Rattle.dc_session.proofs.Certificates.{one_made}
@@ -57,10 +57,10 @@ is_past_or_out budget (p ∷ ps) q (Out n) (inl h) = inr (ap Out h.2.1)
 is_past_or_out budget (p ∷ ps) q a (inr h) = is_past_or_out budget ps q a h.1
 
 -- ---- one refusal of each kind, and of one kind
-some_same : {A : Type 0} (x : A) (y : A) (o : Option A) → o ≡ Some x → o ≡ Some y → x ≡ y
+pub some_same : {A : Type 0} (x : A) (y : A) (o : Option A) → o ≡ Some x → o ≡ Some y → x ≡ y
 some_same x y o e f = cc
 
-some_none : {A : Type 0} (x : A) (o : Option A) → o ≡ Some x → o ≡ None → ⊥
+pub some_none : {A : Type 0} (x : A) (o : Option A) → o ≡ Some x → o ≡ None → ⊥
 some_none x o e f = cc
 
 past_out : (k n : ℕ) → ◌≡◌ {A = Answer} (Past k) (Out n) → ⊥
@@ -70,13 +70,13 @@ past_same : (k n : ℕ) → ◌≡◌ {A = Answer} (Past k) (Past n) → k ≡ n
 past_same k n e = cc
 
 -- ---- the checker fails at one step, or accepts
-one_system : (version : ℕ) (p : Proc) (s t : System) → IsSystemOf version p s → IsSystemOf version p t → s ≡ t
+pub one_system : (version : ℕ) (p : Proc) (s t : System) → IsSystemOf version p s → IsSystemOf version p t → s ≡ t
 one_system version p s t (inl h) (inl k) = h.1 ∙ sym k.1
 one_system version p s t (inl (e, h)) (inr (f, k)) = absurd (omega arith)
 one_system version p s t (inr (e, h)) (inl (f, k)) = absurd (omega arith)
 one_system version p s t (inr h) (inr k) = one_folded (system_of p) s t h.1 k.1
 
-holds_none : (ss : List Step) → AllHold ss → first_failure ss ≡ None
+pub holds_none : (ss : List Step) → AllHold ss → first_failure ss ≡ None
 holds_none [] h = refl
 holds_none (s ∷ ss) h = ap (λ t. cond (is_true t) (first_failure ss) (Some s)) h.0 ∙ holds_none ss h.1
 

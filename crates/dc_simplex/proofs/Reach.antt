@@ -1,5 +1,5 @@
 -- The states that a run reaches with pivots that fit.
-use Rattle.std.proofs.Common.{◌≡◌, ℕ, zero, suc, ◌+◌, ◌<◌, ◌≤◌, Bool, true, false, ◌&&◌, Option, Some, None, refl, sym, ◌∙◌, ap, arith, add-one, inl, inr, nat_lt}
+use Rattle.std.proofs.Common.{◌≡◌, ℕ, zero, suc, ◌+◌, ◌<◌, ◌≤◌, true, false, ◌&&◌, Option, Some, None, refl, sym, ◌∙◌, ap, arith, add-one, inl, inr, nat_lt}
 use Rattle.std.specs.Option.{option_and_then}
 use Rattle.std.proofs.lemmas.Bool.{cases_Bool, ltb-true, ltb-false}
 use Rattle.dc_math.specs.Rational.{ℚ}
@@ -13,10 +13,6 @@ use Rattle.dc_pivots.specs.declared.Ending.{Ending}
 use Rattle.dc_pivots.specs.declared.Due.{Due}
 use Rattle.dc_pivots.specs.declared.Due.TheVariants.{Pivot, End}
 use Rattle.dc_simplex.specs.Limits.{test_fits, change_fits, due_in, fits, AllFit, IsReached}
-
-pub and_false : (a b : Bool) → b ≡ false → a && b ≡ false
-and_false true b e = e
-and_false false b e = refl
 
 pub unfit-pivots : (t : Table ℚ) (d : Due) → test_fits t d && change_fits t d ≡ false → IsPivot d
 unfit-pivots t (Pivot q r j) h = tt

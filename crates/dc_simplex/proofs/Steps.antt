@@ -2,7 +2,6 @@
 use Rattle.std.proofs.Common.{◌≡◌, ℕ, ◌+◌, ◌≤◌, ◌≢◌, true, false, length, Result, Ok, Err, refl, sym, ◌∙◌, ap, arith, inl, inr}
 use Rattle.std.proofs.lemmas.Bool.{cases_Bool}
 use Rattle.std.proofs.lemmas.List.FromFn.{length-map-range_with_len}
-use Rattle.std.proofs.Math.ListN.{length-set}
 use Rattle.dc_math.specs.Rational.{ℚ}
 use Rattle.dc_math.specs.RationalField.{rationals}
 use Rattle.dc_lp.specs.declared.Problem.{Problem}
@@ -12,8 +11,8 @@ use Rattle.dc_lp.specs.Problems.{linear_of}
 use Rattle.dc_lp.specs.Tables as tables
 use Rattle.dc_lp.specs.Tables.{Table}
 use Rattle.dc_lp.specs.Meanings.{Meaning, resting, start, pivoted, pivot_fits, IsPivotCell, IsUsable}
+use Rattle.dc_lp.proofs.Fills.{pivoted-real, pivoted-basis}
 use Rattle.dc_pivots.specs.Runs as runs
-use Rattle.dc_pivots.specs.Runs.{State}
 use Rattle.dc_pivots.specs.declared.Phase.{Phase}
 use Rattle.dc_pivots.specs.declared.Phase.TheVariants.{One}
 use Rattle.dc_pivots.specs.declared.Due.{Due}
@@ -32,14 +31,6 @@ start-basis p = simp length-map-range_with_len
 pub start-real : (p : Linear ℚ) → (tables.start ℚ rationals p).real ≡ p.columns
 unfolding tables.start
 start-real p = refl
-
-pub pivoted-real : (t : Table ℚ) (r j : ℕ) → (pivoted t r j).real ≡ t.real
-unfolding tables.pivoted
-pivoted-real t r j = refl
-
-pub pivoted-basis : (t : Table ℚ) (r j : ℕ) → length (pivoted t r j).basis ≡ length t.basis
-unfolding tables.pivoted
-pivoted-basis t r j = simp length-set
 
 -- ---- what was told
 

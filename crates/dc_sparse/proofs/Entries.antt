@@ -1,8 +1,8 @@
 -- The entries that an arena holds, by its nodes.
 use Rattle.std.proofs.Common.{◌≡◌, ◌≢◌, ℕ, zero, suc, ◌<◌, Bool, true, false, cond, not, ◌&&◌, ◌==◌, pos, List, [], ◌∷◌, ◌++◌, length, refl, sym, ◌∙◌, ap, ap₂, subst, arith, inl, inr, eq-eqb}
 use Rattle.std.proofs.lemmas.Bool.{cases_Bool, ne_eqb, eqb-true, eqb-false}
-use Rattle.dc_math.specs.Rational.{ℚ, ◌+ℚ◌, of_ℤ}
-use Rattle.dc_math.specs.RationalRing.{ring, reads, read_nat, same_form}
+use Rattle.std.proofs.Math.Bool.{and-false}
+use Rattle.dc_math.specs.Rational.{ℚ, ◌+ℚ◌, of_ℤ, +ℚ-zero, zero-+ℚ}
 use Rattle.dc_math.specs.Tests.{is_zero, eq_ℚ_true, eq_ℚ-true}
 use Rattle.dc_frac.specs.Value.{value}
 use Rattle.dc_sparse.specs.declared.web.Node.{Node}
@@ -10,12 +10,6 @@ use Rattle.dc_sparse.specs.Lines.{AreApart}
 use Rattle.dc_sparse.specs.Nodes.{row_at, col_at, item, is_live, by_rows}
 use Rattle.dc_sparse.specs.Webs.{IsVacant, ChangesAt, IsSeated, IsCleared}
 use Rattle.dc_sparse.specs.Entries.{share, entry_at, StandsAt, IsPut, KeepsAll, takes}
-
-pub nothing_more : (x : ℚ) → of_ℤ (pos 0) +ℚ x ≡ x
-nothing_more x = ring (x ∷ []) (λ ρ p. simp (p, read_nat ρ, reads) (same_form _ _ _ refl))
-
-pub nothing_else : (x : ℚ) → x +ℚ of_ℤ (pos 0) ≡ x
-nothing_else x = ring (x ∷ []) (λ ρ p. simp (p, read_nat ρ, reads) (same_form _ _ _ refl))
 
 -- what the node at an index gives
 abbrev pub gives : List Node → ℕ → ℕ → ℕ → ℚ
@@ -31,13 +25,13 @@ entry_same (x ∷ xs) (y ∷ ys) i k l h = ap₂ ◌+ℚ◌ (h 0) (entry_same xs
 pub entry_none : (xs : List Node) (i k : ℕ) → ((a : ℕ) → gives xs a i k ≡ of_ℤ (pos 0)) → entry_at xs i k ≡ of_ℤ (pos 0)
 unfolding entry_at row_at col_at item
 entry_none [] i k h = refl
-entry_none (x ∷ xs) i k h = ap₂ ◌+ℚ◌ (h 0) (entry_none xs i k (λ a. h (suc a))) ∙ nothing_more (of_ℤ (pos 0))
+entry_none (x ∷ xs) i k h = ap₂ ◌+ℚ◌ (h 0) (entry_none xs i k (λ a. h (suc a))) ∙ zero-+ℚ (of_ℤ (pos 0))
 
 pub entry_one : (xs : List Node) (n i k : ℕ) → n < length xs → ((a : ℕ) → a ≢ n → gives xs a i k ≡ of_ℤ (pos 0)) → entry_at xs i k ≡ gives xs n i k
 unfolding entry_at row_at col_at item
 entry_one [] n i k lt h = absurd (omega arith)
-entry_one (x ∷ xs) zero i k lt h = ap (λ z. share x i k +ℚ z) (entry_none xs i k (λ a. h (suc a) (λ e. absurd (omega arith)))) ∙ nothing_else (share x i k)
-entry_one (x ∷ xs) (suc n) i k lt h = ap₂ ◌+ℚ◌ (h 0 (λ e. absurd (omega arith))) (entry_one xs n i k (omega arith) (λ a ne. h (suc a) (λ e. ne (let q : suc a ≡ suc n = e in omega arith)))) ∙ nothing_more (gives xs n i k)
+entry_one (x ∷ xs) zero i k lt h = ap (λ z. share x i k +ℚ z) (entry_none xs i k (λ a. h (suc a) (λ e. absurd (omega arith)))) ∙ +ℚ-zero (share x i k)
+entry_one (x ∷ xs) (suc n) i k lt h = ap₂ ◌+ℚ◌ (h 0 (λ e. absurd (omega arith))) (entry_one xs n i k (omega arith) (λ a ne. h (suc a) (λ e. ne (let q : suc a ≡ suc n = e in omega arith)))) ∙ zero-+ℚ (gives xs n i k)
 
 -- ---- what free nodes and nodes elsewhere give
 
@@ -62,15 +56,11 @@ either_way false x e = refl
 pub gives-dead : (xs : List Node) (a i k : ℕ) → is_live xs a ≡ false → gives xs a i k ≡ of_ℤ (pos 0)
 gives-dead xs a i k e = either_way (row_at xs a == i && col_at xs a == k) (item xs a) (item-dead xs a e)
 
-and_right : (b : Bool) → b && false ≡ false
-and_right true = refl
-and_right false = refl
-
 pub gives-elsewhere : (xs : List Node) (a i k : ℕ) → (row_at xs a ≡ i → col_at xs a ≡ k → ⊥) → gives xs a i k ≡ of_ℤ (pos 0)
 gives-elsewhere xs a i k ne = elim (cases_Bool (row_at xs a == i)) [
   | inl e ↦
       (let f : (col_at xs a == k) ≡ false = ne_eqb (col_at xs a) k (ne (eqb-true (row_at xs a) i e)) in
-      rw (f, and_right (row_at xs a == i)) refl)
+      rw (f, and-false (row_at xs a == i)) refl)
   | inr e ↦ rw e refl
 ]
 
@@ -183,5 +173,5 @@ keeps_on xs ys zs h k = record { entries = λ a b. k.entries a b ∙ h.entries a
 -- an arena with one free node more
 pub entry_appended : (xs : List Node) (x : Node) (i k : ℕ) → value x.value ≡ of_ℤ (pos 0) → entry_at (xs ++ x ∷ []) i k ≡ entry_at xs i k
 unfolding entry_at
-entry_appended [] x i k e = ap (λ z. z +ℚ of_ℤ (pos 0)) (either_way (x.row == i && x.col == k) (value x.value) e) ∙ nothing_more (of_ℤ (pos 0))
+entry_appended [] x i k e = ap (λ z. z +ℚ of_ℤ (pos 0)) (either_way (x.row == i && x.col == k) (value x.value) e) ∙ zero-+ℚ (of_ℤ (pos 0))
 entry_appended (y ∷ ys) x i k e = ap (λ z. share y i k +ℚ z) (entry_appended ys x i k e)

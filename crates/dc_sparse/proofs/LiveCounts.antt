@@ -1,7 +1,7 @@
 -- The linked nodes are as many as the entries that aren't 0.
 use Rattle.std.proofs.Common.{◌≡◌, ℕ, suc, ◌+◌, ◌-◌, ◌<◌, true, false, not, pos, List, [], ◌∷◌, length, refl, sym, ◌∙◌, ap, arith, inl, inr}
 use Rattle.std.proofs.lemmas.Bool.{cases_Bool}
-use Rattle.dc_math.specs.Rational.{ℚ, of_ℤ, ◌+ℚ◌}
+use Rattle.dc_math.specs.Rational.{ℚ, of_ℤ, ◌+ℚ◌, +ℚ-zero, zero-+ℚ}
 use Rattle.dc_math.specs.Tests.{is_zero, eq_ℚ-true}
 use Rattle.dc_frac.specs.Value.{value}
 use Rattle.dc_lp.specs.Fill.{count_cells}
@@ -11,7 +11,7 @@ use Rattle.dc_sparse.specs.Nodes.{row_at, col_at, item, by_rows}
 use Rattle.dc_sparse.specs.Webs.{IsVacant, AreWithin, free_count}
 use Rattle.dc_sparse.specs.Entries.{share, entry_at}
 use Rattle.dc_sparse.specs.Sizes.{held_count, live_count}
-use Rattle.dc_sparse.proofs.Entries.{entry-vacant, gives-elsewhere, gives-here, gives-dead, nothing_more, nothing_else}
+use Rattle.dc_sparse.proofs.Entries.{entry-vacant, gives-elsewhere, gives-here, gives-dead}
 use Rattle.dc_sparse.proofs.FreeCounts.{free_count-cons, weight-live, weight-dead}
 use Rattle.dc_lp.proofs.Counts.{count_cells-empty, count_cells-more, count_cells-same}
 
@@ -55,10 +55,10 @@ unfolding row_at col_at item
 share-dead x i k dead = gives-dead (x ∷ []) 0 i k dead
 
 entry-rest : (x : Node) (xs : List Node) (i k : ℕ) → share x i k ≡ of_ℤ (pos 0) → entry_at (x ∷ xs) i k ≡ entry_at xs i k
-entry-rest x xs i k e = entry-first x xs i k ∙ ap (λ q. q +ℚ entry_at xs i k) e ∙ nothing_more (entry_at xs i k)
+entry-rest x xs i k e = entry-first x xs i k ∙ ap (λ q. q +ℚ entry_at xs i k) e ∙ zero-+ℚ (entry_at xs i k)
 
 entry-here : (x : Node) (xs : List Node) → entry_at xs x.row x.col ≡ of_ℤ (pos 0) → entry_at (x ∷ xs) x.row x.col ≡ value x.value
-entry-here x xs e = entry-first x xs x.row x.col ∙ ap (λ q. share x x.row x.col +ℚ q) e ∙ nothing_else (share x x.row x.col) ∙ share-here x
+entry-here x xs e = entry-first x xs x.row x.col ∙ ap (λ q. share x x.row x.col +ℚ q) e ∙ +ℚ-zero (share x x.row x.col) ∙ share-here x
 
 zero-test : (q : ℚ) → q ≡ of_ℤ (pos 0) → not (is_zero q) ≡ false
 zero-test q e = ap (λ z. not (is_zero z)) e ∙ ap not (eq_ℚ-true (of_ℤ (pos 0)) (of_ℤ (pos 0)) refl)

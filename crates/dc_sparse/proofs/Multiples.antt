@@ -4,8 +4,8 @@ use Rattle.std.proofs.Common.{refl, sym, ◌∙◌, ap, ap₂, subst, arith, inl
 use Rattle.std.proofs.lemmas.Int.{ints}
 use Rattle.std.proofs.lemmas.Bool.{cases_Bool, ne_eqb, eqb-true, eqb-false, ltb-true, ltb-false}
 use mir.Syntax.{w128}
-use Rattle.dc_math.specs.Rational.{ℚ, Fraction, of_ℤ, of_ℤ-+ℤ, neg_ℚ, ◌+ℚ◌, ◌-ℚ◌, ◌*ℚ◌}
-use Rattle.dc_math.specs.RationalRing.{ring, reads, read_nat, same_form}
+use Rattle.dc_math.specs.Rational.{ℚ, Fraction, of_ℤ, of_ℤ-+ℤ, neg_ℚ, ◌+ℚ◌, ◌-ℚ◌, ◌*ℚ◌, *ℚ-one, zero-*ℚ}
+use Rattle.dc_math.specs.RationalRing.{ring, reads, same_form}
 use Rattle.dc_math.specs.Order.{of_ℤ-neg_ℤ}
 use Rattle.dc_math.specs.Tests.{is_zero, eq_ℚ_true}
 use Rattle.dc_frac.specs.declared.Frac.{Frac}
@@ -39,9 +39,6 @@ difference_small a b h k = omega (arith, ints)
 pub small_fits : (z : ℤ) → unsigned_abs z < 2 ^ 83 → SFits w128 z
 small_fits z h = omega (arith, ints)
 
-none : (m : ℚ) → of_ℤ (pos 0) *ℚ m ≡ of_ℤ (pos 0)
-none m = ring (m ∷ []) (λ ρ p. simp (p, read_nat ρ, reads) (same_form _ _ _ refl))
-
 -- a product less another one
 pub combined_value : (at col : ℕ) (p q t f : ℤ) (x y : ℚ) → at ≢ col → of_ℤ p ≡ y *ℚ of_ℤ t → of_ℤ q ≡ x *ℚ of_ℤ f → of_ℤ (p -ℤ q) ≡ reduced_entry at col (of_ℤ f) x (y *ℚ of_ℤ t)
 combined_value at col p q t f x y ne ep eq =
@@ -55,16 +52,13 @@ combined_value at col p q t f x y ne ep eq =
 
 -- where the row has no number
 pub taken_value : (at col : ℕ) (q t f : ℤ) (x y : ℚ) → at ≢ col → y ≡ of_ℤ (pos 0) → of_ℤ q ≡ x *ℚ of_ℤ f → of_ℤ (pos 0 -ℤ q) ≡ reduced_entry at col (of_ℤ f) x (y *ℚ of_ℤ t)
-taken_value at col q t f x y ne ey eq = combined_value at col (pos 0) q t f x y ne (sym (ap (λ z. z *ℚ of_ℤ t) ey ∙ none (of_ℤ t))) eq
-
-times_one : (x : ℚ) → x *ℚ of_ℤ (pos 1) ≡ x
-times_one x = ring (x ∷ []) (λ ρ p. simp (p, read_nat ρ, reads) (same_form _ _ _ refl))
+taken_value at col q t f x y ne ey eq = combined_value at col (pos 0) q t f x y ne (sym (ap (λ z. z *ℚ of_ℤ t) ey ∙ zero-*ℚ (of_ℤ t))) eq
 
 zero_times : (x m : ℚ) → is_zero x ≡ true → x *ℚ m ≡ of_ℤ (pos 0)
-zero_times x m e = ap (λ z. z *ℚ m) (eq_ℚ_true x (of_ℤ (pos 0)) e) ∙ none m
+zero_times x m e = ap (λ z. z *ℚ m) (eq_ℚ_true x (of_ℤ (pos 0)) e) ∙ zero-*ℚ m
 
 pub once : (x : ℚ) (t : ℤ) → t ≡ pos 1 → x *ℚ of_ℤ t ≡ x
-once x t e = ap (λ z. x *ℚ of_ℤ z) e ∙ times_one x
+once x t e = ap (λ z. x *ℚ of_ℤ z) e ∙ *ℚ-one x
 
 -- ---- a row that is multiplied from column n on
 

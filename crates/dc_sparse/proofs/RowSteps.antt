@@ -1,6 +1,7 @@
 -- A row that is reduced column after column.
 use Rattle.std.proofs.Common.{◌≡◌, ◌≢◌, ℕ, zero, suc, ◌+◌, ◌<◌, ◌≤◌, Bool, true, false, cond, not, ◌&&◌, ◌||◌, ◌==◌, nat_lt, pos, List, Option, Some, None, refl, sym, ◌∙◌, ap, subst, arith, add-one, inl, inr, length}
 use Rattle.std.proofs.lemmas.Bool.{cases_Bool, ne_eqb, eqb-true, eqb-false, ltb-true, ltb-false}
+use Rattle.std.proofs.Math.Bool.{and-false}
 use Rattle.dc_math.specs.Rational.{ℚ, ◌-ℚ◌, ◌*ℚ◌, of_ℤ, ≤ℚ_refl}
 use Rattle.dc_math.specs.Tests.{is_zero, is_negative, eq_ℚ_true, eq_ℚ-true, lt_ℚ-false}
 use Rattle.dc_frac.specs.declared.Frac.{Frac}
@@ -225,11 +226,7 @@ counting_start xs i pivot source f = record { counted = refl; next = f; stop = t
 
 counting_skip : (xs : List Node) (i pivot m n : ℕ) (o : Option ℕ) → IsFirst (by_rows xs) pivot m o → m ≤ n → ((c : ℕ) → o ≡ Some c → n ≤ col_at xs c) → row_gaps xs i pivot n ≡ row_gaps xs i pivot m
 unfolding row_gaps
-counting_skip xs i pivot m n o f le lt = count_below-none _ m n le (λ k l u. rw (gap_before xs pivot m o f k l (λ c e. (let w = lt c e in omega arith))) (and_false' (is_zero (entry_at xs i k))))
-  where
-    and_false' : (b : Bool) → b && false ≡ false
-    and_false' true = refl
-    and_false' false = refl
+counting_skip xs i pivot m n o f le lt = count_below-none _ m n le (λ k l u. rw (gap_before xs pivot m o f k l (λ c e. (let w = lt c e in omega arith))) (and-false (is_zero (entry_at xs i k))))
 
 pub counting_stop : (xs : List Node) (i pivot count done node : ℕ) (left : Option ℕ) → IsCounting xs i pivot count done (Some node) left → StandsBefore (by_rows xs) i (col_at xs node) left
 counting_stop xs i pivot count done node left h = stop_later xs i done (col_at xs node) left h.next.0.index h.stop

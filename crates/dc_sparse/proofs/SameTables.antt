@@ -1,5 +1,6 @@
 -- What an arena that only grows keeps of the table.
 use Rattle.std.proofs.Common.{◌≡◌, ◌∙◌, ℕ, List, Bool, Option, Some, true, false, ap}
+use Rattle.std.proofs.lemmas.Option.{same_Some}
 use Rattle.dc_math.specs.Rational.{ℚ}
 use Rattle.dc_lp.specs.Tables.{Table}
 use Rattle.dc_lp.specs.Meanings.{Meaning, ready_at}
@@ -25,11 +26,8 @@ ready_meaning loaded broken r j real rows rows' basis l b e =
     let M : Bool → Bool → List (List ℚ) → Meaning = λ x y rs. record { loaded = x; broken = y; ready = Some (r, j); table = record { real = real; rows = rs; basis = basis } } in
     ap (λ x. M x broken rows') l ∙ ap (λ y. M true y rows') b ∙ ap (M true false) e
 
-injective : (p q : ℕ × ℕ) → Some p ≡ Some q → p ≡ q
-injective p q e = cc
-
 pub pair_left : (a b r j : ℕ) → ◌≡◌ {A = Option (ℕ × ℕ)} (Some (a, b)) (Some (r, j)) → a ≡ r
-pair_left a b r j e = ap (λ (p : ℕ × ℕ). p.0) (injective (a, b) (r, j) e)
+pair_left a b r j e = ap (λ (p : ℕ × ℕ). p.0) (same_Some (a, b) (r, j) e)
 
 pub pair_right : (a b r j : ℕ) → ◌≡◌ {A = Option (ℕ × ℕ)} (Some (a, b)) (Some (r, j)) → b ≡ j
-pair_right a b r j e = ap (λ (p : ℕ × ℕ). p.1) (injective (a, b) (r, j) e)
+pair_right a b r j e = ap (λ (p : ℕ × ℕ). p.1) (same_Some (a, b) (r, j) e)

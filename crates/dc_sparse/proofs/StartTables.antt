@@ -1,6 +1,6 @@
 -- The starting table is a table.
-use Rattle.std.proofs.Common.{◌≡◌, ℕ, ◌+◌, ◌<◌, ◌≤◌, ◌==◌, nat_lt, Bool, true, false, not, pos, List, [], length, slice_index_or, None, refl, sym, ◌∙◌, ap, subst, arith, inl, inr}
-use Rattle.std.proofs.lemmas.Bool.{cases_Bool, eqb-true, eqb-false, ltb-true, ltb-false}
+use Rattle.std.proofs.Common.{◌≡◌, ℕ, ◌+◌, ◌<◌, ◌≤◌, ◌==◌, nat_lt, Bool, true, false, not, pos, List, [], length, slice_index_or, None, sym, ◌∙◌, ap, subst, arith, inl, inr}
+use Rattle.std.proofs.lemmas.Bool.{cases_Bool, eqb-true, eqb-false, ltb-true, ltb-false, not-true}
 use Rattle.std.proofs.lemmas.List.FromFn.{get_or-map-range_with_len}
 use Rattle.dc_math.specs.Tests as tests
 use Rattle.dc_math.specs.Rational.{ℚ, of_ℤ}
@@ -77,10 +77,6 @@ module _ (p : Problem) where
       ap (λ r. slice_index_or r k (of_ℤ (pos 0))) (get_or-map-range_with_len (λ a. made (width p) (λ b. start_value p a b)) 0 (p.rows + 2) i i [] li (omega arith))
       ∙ get_or-map-range_with_len (λ b. start_value p i b) 0 (width p) k k (of_ℤ (pos 0)) lk (omega arith)
 
-  not_true : (b : Bool) → not b ≡ true → b ≡ false
-  not_true true e = absurd (cc)
-  not_true false e = refl
-
   -- what is part of the starting table has no more entries
   pub part-entries : (xs : List Node) → IsPartOf p xs (p.rows + 2) → held_count xs (p.rows + 2) (width p) ≤ entry_count (start p)
   unfolding held_count entry_count
@@ -88,6 +84,6 @@ module _ (p : Problem) where
       let some : ℕ → ℕ → Bool = λ i k. not (tests.is_zero (at (start p) i k)) in
       let l : count_cells (p.rows + 2) (width p) (λ i k. not (tests.is_zero (entry_at xs i k))) ≤ count_cells (p.rows + 2) (width p) some =
       count_cells-least (λ i k. not (tests.is_zero (entry_at xs i k))) some (p.rows + 2) (width p)
-      (λ i k li lk e. ap not (ap tests.is_zero (start-at i k li lk) ∙ f.each i k li lk (not_true (tests.is_zero (entry_at xs i k)) e))) in
+      (λ i k li lk e. ap not (ap tests.is_zero (start-at i k li lk) ∙ f.each i k li lk (not-true (tests.is_zero (entry_at xs i k)) e))) in
       subst (λ n. count_cells (p.rows + 2) (width p) (λ i k. not (tests.is_zero (entry_at xs i k))) ≤ count_cells n ((start p).real + length (start p).basis + 1) some) (sym start-tall)
       (subst (λ n. count_cells (p.rows + 2) (width p) (λ i k. not (tests.is_zero (entry_at xs i k))) ≤ count_cells (p.rows + 2) n some) (sym start-wide) l)

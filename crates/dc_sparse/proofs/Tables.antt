@@ -1,6 +1,7 @@
 -- The table that an arena holds is a table.
 use Rattle.std.proofs.Common.{◌≡◌, ℕ, ◌+◌, ◌<◌, Bool, true, false, cond, not, ◌&&◌, ◌||◌, ◌==◌, pos, List, [], length, set, Option, Some, None, slice_index_or, refl, sym, ◌∙◌, ap, ap₂, arith}
 use Rattle.std.proofs.lemmas.List.FromFn.{get_or-map-range_with_len, length-map-range_with_len, fill_by_all}
+use Rattle.std.proofs.Math.Bool.{or_assoc}
 use Rattle.dc_math.specs.Rational.{ℚ, ◌*ℚ◌, ◌-ℚ◌, of_ℤ}
 use Rattle.dc_math.specs.Inverse.{◌/ℚ◌}
 use Rattle.dc_math.specs.RationalField.{rationals}
@@ -28,10 +29,6 @@ grid-at h w e i k hi hk =
 
 pub made-same : {A : Type 0} (n : ℕ) (f g : ℕ → A) → ((i : ℕ) → i < n → f i ≡ g i) → made n f ≡ made n g
 made-same n f g h = sym (fill_by_all f (made n f) n (f 0) (length-map-range_with_len f 0 n) (λ k l. get_or-map-range_with_len f 0 n k k (f 0) l (omega arith))) ∙ fill_by_all g (made n f) n (f 0) (length-map-range_with_len f 0 n) (λ k l. get_or-map-range_with_len f 0 n k k (f 0) l (omega arith) ∙ h k l)
-
-or_assoc : (a b c : Bool) → a || (b || c) ≡ a || b || c
-or_assoc true b c = refl
-or_assoc false b c = refl
 
 module _ (real h w : ℕ) (basis : List ℕ) (e : ℕ → ℕ → ℚ) (tall : h ≡ length basis + 2) (wide : w ≡ real + length basis + 1) where
   abbrev table : Table ℚ
@@ -85,7 +82,7 @@ module _ (real h w : ℕ) (basis : List ℕ) (e : ℕ → ℕ → ℚ) (tall : h
     step-grid : (i k : ℕ) → i < h → k < w → (k == j || tests.is_zero (divided table r j k) || product_fits (at table i j) (divided table r j k) && difference_fits (at table i k) (at table i j *ℚ divided table r j k))
         ≡ cell_fits (e i j) (e r k /ℚ e r j) (e i k) k
     step-grid i k li lk =
-        sym (or_assoc (k == j) (tests.is_zero (divided table r j k)) (product_fits (at table i j) (divided table r j k) && difference_fits (at table i k) (at table i j *ℚ divided table r j k)))
+        sym (sym (or_assoc (k == j) (tests.is_zero (divided table r j k)) (product_fits (at table i j) (divided table r j k) && difference_fits (at table i k) (at table i j *ℚ divided table r j k))))
         ∙ ap (λ x. cell_fits (at table i j) x (at table i k) k) (divided-at k lk)
         ∙ ap (λ x. cell_fits x (e r k /ℚ e r j) (at table i k) k) (table-at i j li lj)
         ∙ ap (λ x. cell_fits (e i j) (e r k /ℚ e r j) x k) (table-at i k li lk)
@@ -93,7 +90,7 @@ module _ (real h w : ℕ) (basis : List ℕ) (e : ℕ → ℕ → ℚ) (tall : h
     row-grid : (i : ℕ) → i < h → (i == r || reduction_fits table r j i) ≡ (i == r || tests.is_zero (e i j) || all_below w (λ k. k == j || step_fits (e i j) (e r k /ℚ e r j) (e i k)))
     unfolding reduction_fits
     row-grid i li =
-        or_assoc (i == r) (tests.is_zero (at table i j)) _
+        sym (or_assoc (i == r) (tests.is_zero (at table i j)) _)
         ∙ ap (λ b. i == r || b || all_below (real + length basis + 1) (λ k. k == j || tests.is_zero (divided table r j k) || product_fits (at table i j) (divided table r j k) && difference_fits (at table i k) (at table i j *ℚ divided table r j k))) (zero-at i j li lj)
         ∙ ap (λ x. i == r || tests.is_zero (e i j) || all_below x (λ k. k == j || tests.is_zero (divided table r j k) || product_fits (at table i j) (divided table r j k) && difference_fits (at table i k) (at table i j *ℚ divided table r j k))) (sym wide)
         ∙ ap (λ b. i == r || tests.is_zero (e i j) || b) (all_below-same w _ _ (λ k lk. step-grid i k li lk))

@@ -3,21 +3,20 @@ use Rattle.std.specs.Prelude.{◌≡◌, ℕ, ◌<◌, ◌≤◌, ◌^◌, ℤ, 
 use Rattle.std.proofs.Common.{refl, sym, ◌∙◌, ap, ap₂, subst, arith, inl, inr}
 use Rattle.std.proofs.lemmas.Int.{ints}
 use Rattle.std.proofs.lemmas.Bool.{cases_Bool}
+use Rattle.std.specs.Cmp.{both_ways}
 use Rattle.dc_math.specs.Rational.{ℚ, Fraction, fraction_of, ratio_same, of_ℤ, of_ℤ_is, neg_ℚ, ◌-ℚ◌, ◌*ℚ◌, ◌<ℚ◌}
 use Rattle.dc_math.specs.RationalRing.{ring, reads, read_nat, same_form, linear₁, linear₂}
 use Rattle.dc_math.specs.Inverse.{inverse, *ℚ-inverse, ◌/ℚ◌}
 use Rattle.dc_math.specs.Signs.{negated_positive}
 use Rattle.dc_math.specs.Order.{Positive, Positive_nonzero, Positive-*ℚ, inverse_positive, <ℚ_by, of_ℤ-<, of_ℤ-<_back, one_nonzero}
-use Rattle.dc_math.specs.Lowest.{lowest, ratio-lowest, lowest-of_reduced}
+use Rattle.dc_math.specs.Lowest.{lowest, ratio-lowest}
 use Rattle.dc_math.specs.Tests.{is_zero, is_negative, is_positive, eq_ℚ-true, eq_ℚ_true, eq_ℚ_false, lt_ℚ-true, lt_ℚ_true}
 use Rattle.dc_frac.specs.declared.Frac.{Frac}
 use Rattle.dc_frac.specs.Value.{value}
 use Rattle.dc_frac.specs.Fits.{fits, product_fits, quotient_fits, difference_fits, IsWithin}
-use Rattle.dc_frac.proofs.ShortWays.{gcd_nat_one}
-use Rattle.dc_frac.proofs.Values.{same_test}
 use Rattle.dc_frac.proofs.ValueLaws.{lowest-value}
 use Rattle.dc_frac.proofs.FitLaws.{sum-fits}
-use Rattle.dc_frac.proofs.SmallSizes.{whole_within, ratio_within, quotients_fit, products_fit, steps_fit}
+use Rattle.dc_frac.proofs.SmallSizes.{whole_within, ratio_within, quotients_fit, products_fit, steps_fit, lowest-whole}
 use Rattle.dc_start.specs.Changes.{step_fits}
 use Rattle.dc_sparse.specs.Scales.{IsWhole, IsDen, IsPart}
 use Rattle.dc_start.proofs.Changes.{quotient-zero}
@@ -67,12 +66,12 @@ there_and_back : (x d i : ℚ) → d *ℚ i ≡ of_ℤ (pos 1) → (x *ℚ i) *�
 there_and_back x d i e = linear₁ x _ _ _ _ e (ring (x ∷ d ∷ i ∷ []) (λ ρ p q r. simp (p, q, r, read_nat ρ, reads) (same_form _ _ _ refl)))
 
 pub is_negative-/ℚ : (x d : ℚ) → Positive d → is_negative (x /ℚ d) ≡ is_negative x
-is_negative-/ℚ x d p = same_test (is_negative (x /ℚ d)) (is_negative x)
+is_negative-/ℚ x d p = both_ways (is_negative (x /ℚ d)) (is_negative x)
     (λ h. lt_ℚ-true x (of_ℤ (pos 0)) (subst (λ z. z <ℚ of_ℤ (pos 0)) (there_and_back x d (inverse d) (*ℚ-inverse d (Positive_nonzero d p))) (below_zero (x /ℚ d) d (lt_ℚ_true (x /ℚ d) (of_ℤ (pos 0)) h) p)))
     (λ h. lt_ℚ-true (x /ℚ d) (of_ℤ (pos 0)) (below_zero x (inverse d) (lt_ℚ_true x (of_ℤ (pos 0)) h) (inverse_positive d p)))
 
 pub is_positive-/ℚ : (x d : ℚ) → Positive d → is_positive (x /ℚ d) ≡ is_positive x
-is_positive-/ℚ x d p = same_test (is_positive (x /ℚ d)) (is_positive x)
+is_positive-/ℚ x d p = both_ways (is_positive (x /ℚ d)) (is_positive x)
     (λ h. lt_ℚ-true (of_ℤ (pos 0)) x (subst Positive (there_and_back x d (inverse d) (*ℚ-inverse d (Positive_nonzero d p))) (Positive-*ℚ (x /ℚ d) d (lt_ℚ_true (of_ℤ (pos 0)) (x /ℚ d) h) p)))
     (λ h. lt_ℚ-true (of_ℤ (pos 0)) (x /ℚ d) (Positive-*ℚ x (inverse d) (lt_ℚ_true (of_ℤ (pos 0)) x h) (inverse_positive d p)))
 
@@ -98,13 +97,10 @@ whole_is n x h = of_ℤ_is (lowest x).num ∙ ratio_same (fraction_of (lowest x)
 pub whole_small : (n : ℕ) (x : ℚ) → 1 ≤ n → IsWhole n x → IsWithin n x
 whole_small n x l h = subst (IsWithin n) (whole_is n x h) (whole_within n (lowest x).num l h.small)
 
-lowest-of : (z : ℤ) → lowest (of_ℤ z) ≡ fraction_of z
-lowest-of z = ap lowest (of_ℤ_is z) ∙ lowest-of_reduced (fraction_of z) (gcd_nat_one (unsigned_abs z))
-
 pub whole_of : (n : ℕ) (z : ℤ) → unsigned_abs z < 2 ^ n → IsWhole n (of_ℤ z)
 whole_of n z h = record {
-  whole = ap (λ (p : Fraction). p.den) (lowest-of z);
-  small = subst (λ (p : Fraction). unsigned_abs p.num < 2 ^ n) (sym (lowest-of z)) h;
+  whole = ap (λ (p : Fraction). p.den) (lowest-whole z);
+  small = subst (λ (p : Fraction). unsigned_abs p.num < 2 ^ n) (sym (lowest-whole z)) h;
 }
 
 pub whole_zero : IsWhole 41 (of_ℤ (pos 0))

@@ -19,7 +19,7 @@ value-number : (e : Expr) (l : Expr-F Expr) (n : ℕ) (s : State) → out-Expr e
 value-number e (F.Num k) n s o h = rw (fold_out-Expr (State → ℤ) value_step e, o) (let q : k ≡ n = cc in ap pos q)
 value-number e _ n s o h = cc
 
-both-parts : (o p : Option ℕ) (c : ℕ) → both o p ≡ Some c → (a b : ℕ) × (o ≡ Some a) × (p ≡ Some b) × (a + b ≡ c)
+pub both-parts : (o p : Option ℕ) (c : ℕ) → both o p ≡ Some c → (a b : ℕ) × (o ≡ Some a) × (p ≡ Some b) × (a + b ≡ c)
 both-parts None p c h = cc
 both-parts (Some a) None c h = cc
 both-parts (Some a) (Some b) c h = (a, b, refl, refl, cc)

@@ -4,6 +4,7 @@ use Rattle.std.specs.List.{AllByRecursion}
 use Rattle.std.proofs.Common.{refl, sym, ◌∙◌, ap, ap₂, subst, arith}
 use Rattle.std.proofs.lemmas.Bool.{leb-true}
 use Rattle.std.proofs.lemmas.Int.{ints}
+use Rattle.std.proofs.Math.IntN.{*ℤ-zero}
 use Rattle.dc_math.specs.WholeVectors.{dot_ℤ}
 use Rattle.dc_math.specs.WholeRing.{ring, reads, read_nat, same_form}
 use Rattle.dc_poly.specs.Terms.{Exponents, TermList, value, coef, same_mono, degree_of, Places, Canonical, Polynomial}
@@ -29,9 +30,6 @@ value-weighted (c ∷ cs) [] xs = refl
 value-weighted (c ∷ cs) (v ∷ vs) xs =
     value-plus (shifted [] c v.terms) (weighted cs vs) xs ∙ ap₂ ◌+ℤ◌ (value-shifted [] c v.terms xs ∙ one_times c (value v.terms xs)) (value-weighted cs vs xs)
 
-times_zero : (c : ℤ) → pos 0 ≡ c *ℤ pos 0
-times_zero c = ring (c ∷ []) (λ ρ p. simp (p, read_nat ρ, reads) (same_form _ _ _ refl))
-
 share : (c t k : ℤ) → c *ℤ t +ℤ c *ℤ k ≡ c *ℤ (t +ℤ k)
 share c t k = ring (c ∷ t ∷ k ∷ []) (λ ρ p q r. simp (p, q, r, reads) (same_form _ _ _ refl))
 
@@ -39,7 +37,7 @@ none : (c k : ℤ) → pos 0 +ℤ c *ℤ k ≡ c *ℤ (pos 0 +ℤ k)
 none c k = ring (c ∷ k ∷ []) (λ ρ p q. simp (p, q, read_nat ρ, reads) (same_form _ _ _ refl))
 
 pub coef-shifted : (c : ℤ) (p : TermList) (u : Exponents) → coef (shifted [] c p) u ≡ c *ℤ coef p u
-coef-shifted c [] u = times_zero c
+coef-shifted c [] u = sym (*ℤ-zero c)
 coef-shifted c (t ∷ p) u = by (coef-shifted c p u) (same_mono t.mono u)
   where
     by : coef (shifted [] c p) u ≡ c *ℤ coef p u → (b : Bool) → cond b (c *ℤ t.coef) (pos 0) +ℤ coef (shifted [] c p) u ≡ c *ℤ (cond b t.coef (pos 0) +ℤ coef p u)

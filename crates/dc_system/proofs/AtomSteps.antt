@@ -4,7 +4,7 @@ use Rattle.std.specs.declared.option.Option.{Option}
 use Rattle.std.proofs.Common.{sym, ◌∙◌, ap, ap₂, subst, arith, SFits}
 use Rattle.std.specs.Int.{w128}
 use Rattle.std.proofs.lemmas.Int.{ints, fits_signed_from_abs}
-use Rattle.std.proofs.lemmas.Bool.{le-leb, lt-leb}
+use Rattle.std.proofs.lemmas.Bool.{le-leb, lt-leb, and_right}
 use Rattle.std.proofs.lemmas.List.{append_assoc, append-nil, drop_more, drop_all}
 use Rattle.dc_math.specs.Members.{each_is}
 use Rattle.dc_poly.specs.Terms.{Exponents, Polynomial}
@@ -40,10 +40,6 @@ unit_bars f (suc m) (suc k) h g = either (leb (unsigned_abs (f (unit_at (suc m) 
 chosen_atom : (m : ℕ) (a : Atom) (vs : List Polynomial) (b : Bool) (o : Option Atom) → atom_fits (atom_at m a vs) ≡ b → o ≡ (if b then Some (atom_at m a vs) else None) → o ≡ (if atom_fits (atom_at m a vs) then Some (atom_at m a vs) else None)
 chosen_atom m a vs b o e f = f ∙ ap (λ t. if t then Some (atom_at m a vs) else None) (sym e)
 
-both_false : (a b : Bool) → b ≡ false → (a && b) ≡ false
-both_false true b h = h
-both_false false b h = refl
-
 -- ---- what the code answers
 pub constant_bars : (m : ℕ) (a : Atom) (vs : List Polynomial) (c s : ℤ) (u : Exponents) → u ≡ zeros m → s ≡ coef_at a.coefs vs u → c ≡ a.c0 +ℤ s → 2147483648 < unsigned_abs c → None ≡ (if atom_fits (atom_at m a vs) then Some (atom_at m a vs) else None)
 constant_bars m a vs c s u e f g h =
@@ -54,7 +50,7 @@ constant_bars m a vs c s u e f g h =
 pub coef_bars : (m k : ℕ) (a : Atom) (vs : List Polynomial) (c : ℤ) (u : Exponents) → k < m → u ≡ unit_at m k → c ≡ coef_at a.coefs vs u → most < unsigned_abs c → None ≡ (if atom_fits (atom_at m a vs) then Some (atom_at m a vs) else None)
 coef_bars m k a vs c u h e f g =
     let q : c ≡ coef_at a.coefs vs (unit_at m k) = f ∙ ap (coef_at a.coefs vs) e in
-    chosen_atom m a vs false None (both_false _ _ (unit_bars (coef_at a.coefs vs) m k h (subst (λ (x : ℤ). most < unsigned_abs x) q g))) refl
+    chosen_atom m a vs false None (and_right _ _ (unit_bars (coef_at a.coefs vs) m k h (subst (λ (x : ℤ). most < unsigned_abs x) q g))) refl
 
 pub atom_made : (m k : ℕ) (a b : Atom) (vs : List Polynomial) (s : ℤ) (u : Exponents) (cs : List ℤ) → u ≡ zeros m → s ≡ coef_at a.coefs vs u → m ≤ k → cs ≡ map (coef_at a.coefs vs) (take k (units m)) → numbers_fit cs ≡ true → unsigned_abs (a.c0 +ℤ s) ≤ 2147483648 → b ≡ record { c0 = a.c0 +ℤ s; coefs = cs }
     → Some b ≡ (if atom_fits (atom_at m a vs) then Some (atom_at m a vs) else None)

@@ -1,21 +1,16 @@
 -- The bounds of forms without faults, over the chosen value too.
 use Rattle.std.specs.Prelude.{◌≡◌, ℕ, ◌+◌, ◌≤◌, Bool, true, false, ltb, if◌then◌else◌, Some, None, refl}
-use Rattle.std.specs.declared.option.Option.{Option}
 use Rattle.std.specs.Option.{option_or}
 use Rattle.std.proofs.Common.{sym, ◌∙◌, ap, subst, ltb-false}
 use Rattle.dc_syntax.specs.declared.tree.Expr.{Expr, Expr-F, roll-Expr, map-Expr, fold-roll-Expr}
 use Rattle.dc_syntax.specs.declared.tree.Expr.TheOpen as F
 use Rattle.dc_syntax.proofs.Inductions.{Expr-induction}
 use Rattle.dc_poly.specs.Terms.{TermList, degree_of}
-use Rattle.dc_affine.specs.declared.form.FormFault.{FormFault}
 use Rattle.dc_affine.specs.declared.form.FormFault.TheVariants.{DegreeTooHigh, CoefficientRange, NotAffine}
 use Rattle.dc_poly.specs.NormalForm.{coefs_fit, IsNormalForm}
 use Rattle.dc_affine.specs.Forms.{Formed, formed, form_step, is_below, fault_of, own_fault, bend, affine_fault}
+use Rattle.dc_affine.proofs.FormLaws.{none_parts}
 use Rattle.dc_system.proofs.Wider.{fault_wider, affine_fault_wider}
-
-none_parts : (o p : Option FormFault) → option_or o p ≡ None → (o ≡ None) × (p ≡ None)
-none_parts None p e = (refl, e)
-none_parts (Some f) p e = cc
 
 own_narrow : (p : TermList) → own_fault p ≡ None → IsNormalForm p
 own_narrow p e = by (ltb 2 (degree_of p)) refl (coefs_fit p) refl e

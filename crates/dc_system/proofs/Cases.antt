@@ -1,11 +1,10 @@
 -- The facts of a condition: they mention declared variables, and a conjunction has few of them.
-use Rattle.std.specs.Prelude.{◌≡◌, ℕ, ◌+◌, ◌*◌, ◌≤◌, Bool, true, false, List, [], ◌∷◌, ◌++◌, length, Some, None, refl}
-use Rattle.std.specs.declared.option.Option.{Option}
-use Rattle.std.specs.Option.{option_or}
+use Rattle.std.specs.Prelude.{◌≡◌, ℕ, ◌+◌, ◌*◌, ◌≤◌, Bool, true, false, List, [], ◌∷◌, ◌++◌, length, None}
 use Rattle.std.specs.List.{AllByRecursion}
 use Rattle.std.proofs.Common.{sym, ◌∙◌, subst, arith, length-append}
+use Rattle.std.proofs.lemmas.Bool.{and_parts}
 use Rattle.dc_math.specs.Members.{each-weaker, each-++}
-use Rattle.dc_syntax.specs.declared.tree.Expr.{Expr, Num, roll-Expr, fold-roll-Expr}
+use Rattle.dc_syntax.specs.declared.tree.Expr.{Expr, Num}
 use Rattle.dc_syntax.specs.declared.tree.Expr.TheOpen as F
 use Rattle.dc_syntax.specs.declared.tree.Rel.{Rel}
 use Rattle.dc_syntax.specs.declared.tree.Rel.TheVariants.{Lt, Le, Gt, Ge, Eq, Ne}
@@ -13,15 +12,14 @@ use Rattle.dc_syntax.specs.declared.tree.Cond.{Cond, Cond-F, roll-Cond, map-Cond
 use Rattle.dc_syntax.specs.declared.tree.Cond.TheOpen as G
 use Rattle.dc_syntax.specs.Trees.{EachCond}
 use Rattle.dc_syntax.proofs.Inductions.{Cond-induction}
-use Rattle.dc_affine.specs.declared.form.FormFault.{FormFault}
-use Rattle.dc_affine.specs.Forms.{is_below, below_step}
+use Rattle.dc_affine.specs.Forms.{is_below}
 use Rattle.dc_affine.specs.Table.{Fact, fact, falsity, after, crossed, relation, opposite, facts_of, facts_step}
 use Rattle.dc_affine.specs.Atoms.{cond_is_below, cond_below_step, comparison_fault, width_fault, dnf_fault}
-use Rattle.dc_affine.proofs.FormLaws.{and_both}
 use Rattle.dc_program.specs.Limits.{operators, cond_operators, cond_operators_step}
 use Rattle.dc_system.proofs.Wider.{cond_below_wider, comparison_wider}
 use Rattle.dc_affine.proofs.FactAtoms.{IsAffineFact}
-use Rattle.dc_affine.proofs.CaseLaws.{cases_affine}
+use Rattle.dc_affine.proofs.CaseLaws.{cases_affine, below-Num}
+use Rattle.dc_affine.proofs.FormLaws.{none_parts}
 use Rattle.dc_system.proofs.Points.{FactBelow, IsCase}
 
 abbrev Facts : Type 0
@@ -50,10 +48,6 @@ below-relation n a Gt b p q = ((facing n a b 1 p q, tt), tt)
 below-relation n a Eq b p q = ((facing n b a 0 q p, (facing n a b 0 p q, tt)), tt)
 below-relation n a Ne b p q = ((facing n b a 1 q p, tt), ((facing n a b 1 p q, tt), tt))
 
-below-Num : (n k : ℕ) → is_below n (Num k) ≡ true
-unfolding roll-Expr denote.Hole.Carrier.roll
-below-Num n k = fold-roll-Expr Bool (below_step n) (F.Num k)
-
 below-falsity : (n : ℕ) → Below n ((falsity ∷ []) ∷ [])
 below-falsity n = ((facing n (Num 0) (Num 0) 1 (below-Num n 0) (below-Num n 0), tt), tt)
 
@@ -64,15 +58,15 @@ below_layer : (n : ℕ) (L : Cond-F Cond) → EachCond (BothBelow n) L → cond_
     → Below n (facts_step (map-Cond Cond _ facts_of L) false) × Below n (facts_step (map-Cond Cond _ facts_of L) true)
 below_layer n G.True h b = ((tt, tt), below-falsity n)
 below_layer n G.False h b = (below-falsity n, (tt, tt))
-below_layer n (G.Cmp x r y) h b = let p = and_both (is_below n x) (is_below n y) b in (below-relation n x r y p.0 p.1, below-relation n x (opposite r) y p.0 p.1)
+below_layer n (G.Cmp x r y) h b = let p = and_parts (is_below n x) (is_below n y) b in (below-relation n x r y p.0 p.1, below-relation n x (opposite r) y p.0 p.1)
 below_layer n (G.Not c) h b = let q = h b in (q.1, q.0)
 below_layer n (G.And c d) h b =
-    let p = and_both (cond_is_below n c) (cond_is_below n d) b in
+    let p = and_parts (cond_is_below n c) (cond_is_below n d) b in
     let q = h.0 p.0 in
     let r = h.1 p.1 in
     (below-crossed n (facts_of c false) (facts_of d false) q.0 r.0, each-++ (AllByRecursion (FactBelow n)) (facts_of c true) (facts_of d true) q.1 r.1)
 below_layer n (G.Or c d) h b =
-    let p = and_both (cond_is_below n c) (cond_is_below n d) b in
+    let p = and_parts (cond_is_below n c) (cond_is_below n d) b in
     let q = h.0 p.0 in
     let r = h.1 p.1 in
     (each-++ (AllByRecursion (FactBelow n)) (facts_of c false) (facts_of d false) q.0 r.0, below-crossed n (facts_of c true) (facts_of d true) q.1 r.1)
@@ -132,9 +126,6 @@ facts_short c = Cond-induction BothShort (λ L h.
     )) c
 
 -- ---- together
-none_parts : (o p : Option FormFault) → option_or o p ≡ None → (o ≡ None) × (p ≡ None)
-none_parts None p e = (refl, e)
-none_parts (Some f) p e = cc
 
 together : (n k : ℕ) (fs : Facts) → k ≤ 64 → Below n fs → AllByRecursion (AllByRecursion (IsAffineFact (n + 1))) fs → AllByRecursion (Short k) fs → AllByRecursion (IsCase n) fs
 together n k [] h a b d = tt

@@ -3,7 +3,7 @@ use Rattle.std.specs.Prelude.{◌≡◌, ◌↔◌, ℕ, ◌+◌, ◌≤◌, ◌
 use Rattle.std.specs.declared.option.Option.{Option}
 use Rattle.std.specs.List.{AllByRecursion}
 use Rattle.std.proofs.Common.{sym, ◌∙◌, ap, ap₂, subst}
-use Rattle.std.proofs.lemmas.Bool.{le-leb, lt-leb}
+use Rattle.std.proofs.lemmas.Bool.{le-leb, lt-leb, and_right}
 use Rattle.std.proofs.lemmas.List.{length_push}
 use Rattle.dc_math.specs.Members.{each-weaker, each-++}
 use Rattle.dc_syntax.specs.Value.{State}
@@ -42,10 +42,6 @@ when n e f b o q r = r ∙ ap (λ t. if t then Some (composed n e f) else None) 
 abbrev six : Bool → Bool → Bool → Bool → Bool → Bool → Bool
 six a b c d f g = a && (b && (c && (d && (f && g))))
 
-then_false : (a b : Bool) → b ≡ false → (a && b) ≡ false
-then_false true b h = h
-then_false false b h = refl
-
 first_false : (a b : Bool) → a ≡ false → (a && b) ≡ false
 first_false true b h = cc
 first_false false b h = refl
@@ -54,28 +50,28 @@ bars₁ : (a b c d f g : Bool) → a ≡ false → six a b c d f g ≡ false
 bars₁ a b c d f g h = first_false a (b && (c && (d && (f && g)))) h
 
 bars₂ : (a b c d f g : Bool) → b ≡ false → six a b c d f g ≡ false
-bars₂ a b c d f g h = then_false a (b && (c && (d && (f && g)))) (first_false b (c && (d && (f && g))) h)
+bars₂ a b c d f g h = and_right a (b && (c && (d && (f && g)))) (first_false b (c && (d && (f && g))) h)
 
 bars₃ : (a b c d f g : Bool) → c ≡ false → six a b c d f g ≡ false
-bars₃ a b c d f g h = then_false a (b && (c && (d && (f && g)))) (then_false b (c && (d && (f && g))) (first_false c (d && (f && g)) h))
+bars₃ a b c d f g h = and_right a (b && (c && (d && (f && g)))) (and_right b (c && (d && (f && g))) (first_false c (d && (f && g)) h))
 
 bars₄ : (a b c d f g : Bool) → d ≡ false → six a b c d f g ≡ false
-bars₄ a b c d f g h = inner_bars a b (c && (d && (f && g))) (then_false c (d && (f && g)) (first_false d (f && g) h))
+bars₄ a b c d f g h = inner_bars a b (c && (d && (f && g))) (and_right c (d && (f && g)) (first_false d (f && g) h))
   where
     inner_bars : (a b x : Bool) → x ≡ false → (a && (b && x)) ≡ false
-    inner_bars a b x h = then_false a (b && x) (then_false b x h)
+    inner_bars a b x h = and_right a (b && x) (and_right b x h)
 
 bars₅ : (a b c d f g : Bool) → f ≡ false → six a b c d f g ≡ false
-bars₅ a b c d f g h = inner_bars a b c (d && (f && g)) (then_false d (f && g) (first_false f g h))
+bars₅ a b c d f g h = inner_bars a b c (d && (f && g)) (and_right d (f && g) (first_false f g h))
   where
     inner_bars : (a b c x : Bool) → x ≡ false → (a && (b && (c && x))) ≡ false
-    inner_bars a b c x h = then_false a (b && (c && x)) (then_false b (c && x) (then_false c x h))
+    inner_bars a b c x h = and_right a (b && (c && x)) (and_right b (c && x) (and_right c x h))
 
 bars₆ : (a b c d f g : Bool) → g ≡ false → six a b c d f g ≡ false
-bars₆ a b c d f g h = inner_bars a b c d (f && g) (then_false f g h)
+bars₆ a b c d f g h = inner_bars a b c d (f && g) (and_right f g h)
   where
     inner_bars : (a b c d x : Bool) → x ≡ false → (a && (b && (c && (d && x)))) ≡ false
-    inner_bars a b c d x h = then_false a (b && (c && (d && x))) (then_false b (c && (d && x)) (then_false c (d && x) (then_false d x h)))
+    inner_bars a b c d x h = and_right a (b && (c && (d && x))) (and_right b (c && (d && x)) (and_right c (d && x) (and_right d x h)))
 
 module _ (n : ℕ) (e f : Edge) where
   abbrev one_choice : Bool

@@ -1,12 +1,12 @@
 -- A composed edge is an edge of a well formed system.
-use Rattle.std.specs.Prelude.{◌≡◌, ℕ, suc, ◌+◌, ◌≤◌, Bool, true, false, ◌||◌, leb, List, [], ◌∷◌, ◌++◌, length, slice_index_or, ℤ, pos, unsigned_abs, Some, refl}
+use Rattle.std.specs.Prelude.{◌≡◌, ℕ, suc, ◌+◌, ◌≤◌, true, leb, List, [], ◌∷◌, ◌++◌, length, slice_index_or, ℤ, pos, unsigned_abs, Some, refl}
 use Rattle.std.specs.List.{AllByRecursion}
 use Rattle.std.proofs.Common.{sym, ◌∙◌, ap, subst, arith, length-append}
-use Rattle.std.proofs.lemmas.Bool.{leb-true}
+use Rattle.std.proofs.lemmas.Bool.{leb-true, and_parts, or_parts}
 use Rattle.std.proofs.lemmas.List.{length-map}
 use Rattle.dc_math.specs.Members.{each-++}
 use Rattle.dc_poly.specs.Terms.{degree_of, Polynomial, Places}
-use Rattle.dc_poly.specs.Sums.{unit_at, zeros, plus, composition_of, places_of, sum_of}
+use Rattle.dc_poly.specs.Sums.{unit_at, plus, composition_of, places_of, sum_of}
 use Rattle.dc_poly.specs.Sums as sums
 use Rattle.dc_poly.specs.Affine.{units}
 use Rattle.dc_poly.proofs.Values.{Canonical-composed, Canonical-plus}
@@ -14,7 +14,6 @@ use Rattle.dc_poly.proofs.Padded.{AllPadded, Places-composed, Places-plus, Place
 use Rattle.dc_affine.specs.declared.atom.Atom.{Atom}
 use Rattle.dc_poly.specs.NormalForm.{most, coefs_fit, IsNormalForm}
 use Rattle.dc_affine.specs.Atoms.{AllFit, IsAtom}
-use Rattle.dc_affine.proofs.FormLaws.{and_both}
 use Rattle.dc_affine.proofs.Units.{length-units}
 use Rattle.dc_system.specs.declared.edges.Edge.{Edge}
 use Rattle.dc_system.specs.Edges.{chosen}
@@ -52,7 +51,7 @@ after_padded n e h = subst (λ i. AllPadded i (after n e)) (sym (after_places n 
 
 -- ---- forms
 narrow_of : (p : Polynomial) → form_fits p ≡ true → IsNormalForm p.terms
-narrow_of p h = let q = and_both (leb (sums_degree p) 2) (coefs_fit p.terms) h in record { low = leb-true (sums_degree p) 2 q.0; fits = q.1 }
+narrow_of p h = let q = and_parts (leb (sums_degree p) 2) (coefs_fit p.terms) h in record { low = leb-true (sums_degree p) 2 q.0; fits = q.1 }
 
 form_at : (n : ℕ) (e : Edge) (p : Polynomial) → n ≤ 10 → IsEdge n e → form_fits (composition_of p (after n e)) ≡ true → IsForm (n + 1) (composition_of p (after n e))
 form_at n e p h j f =
@@ -66,7 +65,7 @@ form_at n e p h j f =
 all_forms_at : (n : ℕ) (e : Edge) (ps : List Polynomial) → n ≤ 10 → IsEdge n e → forms_fit (forms_at ps (after n e)) ≡ true → AllByRecursion (IsForm (n + 1)) (forms_at ps (after n e))
 all_forms_at n e [] h j f = tt
 all_forms_at n e (p ∷ ps) h j f =
-    let q = and_both (form_fits (composition_of p (after n e))) (forms_fit (forms_at ps (after n e))) f in
+    let q = and_parts (form_fits (composition_of p (after n e))) (forms_fit (forms_at ps (after n e))) f in
     (form_at n e p h j q.0, all_forms_at n e ps h j q.1)
 
 cost_at : (n : ℕ) (e f : Edge) → n ≤ 10 → IsEdge n e → form_fits (sum_of e.cost (composition_of f.cost (after n e))) ≡ true → IsForm (n + 1) (sum_of e.cost (composition_of f.cost (after n e)))
@@ -85,23 +84,20 @@ cost_at n e f h j g =
 -- ---- atoms
 numbers_all : (cs : List ℤ) → numbers_fit cs ≡ true → AllFit cs
 numbers_all [] h = tt
-numbers_all (c ∷ cs) h = let q = and_both (leb (unsigned_abs c) most) (numbers_fit cs) h in (leb-true (unsigned_abs c) most q.0, numbers_all cs q.1)
+numbers_all (c ∷ cs) h = let q = and_parts (leb (unsigned_abs c) most) (numbers_fit cs) h in (leb-true (unsigned_abs c) most q.0, numbers_all cs q.1)
 
 sized : (m : ℕ) (a : Atom) (vs : List Polynomial) → atom_fits (atom_at m a vs) ≡ true → IsAtom m (atom_at m a vs)
 sized m a vs h =
     let b = atom_at m a vs in
-    let q = and_both (leb (unsigned_abs b.c0) 2147483648) (numbers_fit b.coefs) h in
+    let q = and_parts (leb (unsigned_abs b.c0) 2147483648) (numbers_fit b.coefs) h in
     let l : length b.coefs ≡ m = length-map (units m) (coef_at a.coefs vs) ∙ length-units m in
     record { few = omega arith; coefs_within = numbers_all b.coefs q.1; constant_within = leb-true (unsigned_abs b.c0) 2147483648 q.0 }
 
 all_sized : (m : ℕ) (gs : List Atom) (vs : List Polynomial) → atoms_fit (atoms_at m gs vs) ≡ true → AllByRecursion (IsAtom m) (atoms_at m gs vs)
 all_sized m [] vs h = tt
-all_sized m (a ∷ gs) vs h = let q = and_both (atom_fits (atom_at m a vs)) (atoms_fit (atoms_at m gs vs)) h in (sized m a vs q.0, all_sized m gs vs q.1)
+all_sized m (a ∷ gs) vs h = let q = and_parts (atom_fits (atom_at m a vs)) (atoms_fit (atoms_at m gs vs)) h in (sized m a vs q.0, all_sized m gs vs q.1)
 
 -- ---- no chosen value
-neither : (a b : Bool) → (a || b) ≡ false → (a ≡ false) × (b ≡ false)
-neither true b h = cc
-neither false b h = (refl, h)
 
 last_unit : (n : ℕ) → slice_index_or (unit_at (n + 1) n) n 0 ≡ 1
 last_unit n = subst (λ m. nat_at (unit_at m n) n ≡ 1) (let q : suc n ≡ n + 1 = omega arith in q) (unit_last n)
@@ -130,7 +126,7 @@ composed_edge n e f h j k c = record {
   cost = cost_at n e f h j c.cost;
   few_atoms = (let a = length-append e.guard (atoms_at (n + 1) f.guard (after n e)) in let b = length-map f.guard (λ a. atom_at (n + 1) a (after n e)) in let d = c.few in omega arith);
   atoms = each-++ (IsAtom (n + 1)) e.guard (atoms_at (n + 1) f.guard (after n e)) j.atoms (all_sized (n + 1) f.guard (after n e) c.atoms);
-  unchosen = λ q. let a = neither e.any f.any q in let u = j.unchosen a.0 in let v = k.unchosen a.1 in record {
+  unchosen = λ q. let a = or_parts e.any f.any q in let u = j.unchosen a.0 in let v = k.unchosen a.1 in record {
     guard = each-++ (AtomSkips n) e.guard (atoms_at (n + 1) f.guard (after n e)) u.guard (atoms_skip n e f.guard j u v.guard);
     update = forms_skip n e f.update j u v.update;
     cost = skip-plus n e.cost.terms (composition_of f.cost (after n e)).terms u.cost (form_skips n e f.cost j u v.cost);

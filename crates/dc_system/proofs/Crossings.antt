@@ -3,7 +3,7 @@ use Rattle.std.specs.Prelude.{◌≡◌, ◌↔◌, ◌⊎◌, ℕ, zero, suc, �
 use Rattle.std.specs.List.{AllByRecursion}
 use Rattle.std.proofs.Common.{sym, ◌∙◌, ap, ap₂, subst, arith, inl, inr}
 use Rattle.std.proofs.lemmas.Int.{ints}
-use Rattle.std.proofs.lemmas.Bool.{leb-true}
+use Rattle.std.proofs.lemmas.Bool.{leb-true, and_parts, and_from}
 use Rattle.std.proofs.lemmas.List.{length-map}
 use Rattle.dc_math.specs.Members.{each-++}
 use Rattle.dc_math.specs.WholeRing.{ring, reads, read_nat, same_form}
@@ -17,7 +17,6 @@ use Rattle.dc_poly.proofs.Values.{value-composed, value-plus}
 use Rattle.dc_affine.specs.declared.atom.Atom.{Atom}
 use Rattle.dc_affine.specs.Atoms.{atom_value, holds_at, all_hold}
 use Rattle.dc_affine.proofs.Units.{read_value}
-use Rattle.dc_affine.proofs.FormLaws.{and_both}
 use Rattle.dc_system.specs.declared.edges.Edge.{Edge}
 use Rattle.dc_system.specs.Edges.{chosen}
 use Rattle.dc_system.specs.Paths.{at, Step}
@@ -25,7 +24,6 @@ use Rattle.dc_system.specs.Shapes.{IsForm, TermsSkip, Skips, AtomSkips, IsUnchos
 use Rattle.dc_system.specs.Composed.{after, coef_at, atom_at, atoms_at, forms_at, composed, all_flat, atoms_fit, form_fits, forms_fit, can_compose, compose_of, Crosses}
 use Rattle.dc_poly.proofs.Padded.{Places-variable}
 use Rattle.dc_poly.proofs.Degrees.{degree-unit_at}
-use Rattle.dc_system.proofs.Wider.{both}
 use Rattle.dc_system.proofs.Points.{chosen_value, values-++}
 
 -- ---- an atom at affine values
@@ -87,7 +85,7 @@ all_hold-++ (a ∷ gs) bs w = ap (λ b. holds_at a w && b) (all_hold-++ gs bs w)
     grouped false b c = refl
 
 -- ---- forms at values
-forms_at_values : (ps vs : List Polynomial) (w : List ℤ) → values (forms_at ps vs) w ≡ values ps (values vs w)
+pub forms_at_values : (ps vs : List Polynomial) (w : List ℤ) → values (forms_at ps vs) w ≡ values ps (values vs w)
 forms_at_values [] vs w = refl
 forms_at_values (p ∷ ps) vs w = ap₂ ◌∷◌ (value-composed (places_of vs) p.terms vs w) (forms_at_values ps vs w)
 
@@ -161,11 +159,11 @@ not_both false b h = inl refl
 
 pub can_be : (n : ℕ) (e f : Edge) → can_compose n e f ≡ true → Composable n e f
 can_be n e f h =
-    let a = and_both (not (e.any && f.any)) _ h in
-    let b = and_both (all_flat e.update) _ a.1 in
-    let c = and_both (leb (length e.guard + length f.guard) 256) _ b.1 in
-    let d = and_both (atoms_fit (atoms_at (n + 1) f.guard (after n e))) _ c.1 in
-    let g = and_both (forms_fit (forms_at f.update (after n e))) (form_fits (sum_of e.cost (composition_of f.cost (after n e)))) d.1 in
+    let a = and_parts (not (e.any && f.any)) _ h in
+    let b = and_parts (all_flat e.update) _ a.1 in
+    let c = and_parts (leb (length e.guard + length f.guard) 256) _ b.1 in
+    let d = and_parts (atoms_fit (atoms_at (n + 1) f.guard (after n e))) _ c.1 in
+    let g = and_parts (forms_fit (forms_at f.update (after n e))) (form_fits (sum_of e.cost (composition_of f.cost (after n e)))) d.1 in
     record { one_choice = not_both e.any f.any a.0; flat = b.0; few = leb-true (length e.guard + length f.guard) 256 c.0; atoms = d.0; updates = g.0; cost = g.1 }
 
 pub record Made (n : ℕ) (e f g : Edge) : Type 0 where
@@ -182,7 +180,7 @@ made_by n e f g h = by (can_compose n e f) refl h
 flat_all : (n : ℕ) (ps : List Polynomial) → all_flat ps ≡ true → AllByRecursion (IsForm (n + 1)) ps → AllByRecursion (IsFlat (n + 1)) ps
 flat_all n [] h j = tt
 flat_all n (p ∷ ps) h j =
-    let q = and_both (leb (degree_of p.terms) 1) (all_flat ps) h in
+    let q = and_parts (leb (degree_of p.terms) 1) (all_flat ps) h in
     (record { padded = subst (λ k. Places k p.terms) j.0.has_places j.0.kind.padded; low = leb-true (degree_of p.terms) 1 q.0 }, flat_all n ps q.1 j.1)
 
 pub after_flat : (n : ℕ) (e : Edge) → IsEdge n e → all_flat e.update ≡ true → AllByRecursion (IsFlat (n + 1)) (after n e)
@@ -195,7 +193,7 @@ apart : (n : ℕ) (e f : Edge) (s t : State) (c : ℤ) → Composable n e f → 
 apart n e f s t c k h j l w =
     let z = w.0 in
     let m = values e.update (at s z) in
-    let g = and_both (all_hold e.guard (at s z)) (all_hold (atoms_at (n + 1) f.guard (after n e)) (at s z)) (sym (all_hold-++ e.guard (atoms_at (n + 1) f.guard (after n e)) (at s z)) ∙ w.1.passes) in
+    let g = and_parts (all_hold e.guard (at s z)) (all_hold (atoms_at (n + 1) f.guard (after n e)) (at s z)) (sym (all_hold-++ e.guard (atoms_at (n + 1) f.guard (after n e)) (at s z)) ∙ w.1.passes) in
     let v = after_values n e s z l in (
       m,
       value e.cost.terms (at s z),
@@ -209,7 +207,7 @@ together : (n : ℕ) (e f : Edge) (s m t : State) (a b z : ℤ) → Composable n
 together n e f s m t a b z k h l x y =
     let v : values (after n e) (at s z) ≡ at m z = after_values n e s z l ∙ ap (λ i. at i z) (sym x.moves) in
     record {
-      passes = all_hold-++ e.guard (atoms_at (n + 1) f.guard (after n e)) (at s z) ∙ both _ _ x.passes (atoms_at_hold (n + 1) f.guard (after n e) (at s z) (after_flat n e h k.flat) ∙ ap (all_hold f.guard) v ∙ y.passes);
+      passes = all_hold-++ e.guard (atoms_at (n + 1) f.guard (after n e)) (at s z) ∙ and_from _ _ x.passes (atoms_at_hold (n + 1) f.guard (after n e) (at s z) (after_flat n e h k.flat) ∙ ap (all_hold f.guard) v ∙ y.passes);
       costs = ap₂ ◌+ℤ◌ x.costs (y.costs ∙ ap (value f.cost.terms) (sym v) ∙ sym (value-composed (places_of (after n e)) f.cost.terms (after n e) (at s z))) ∙ sym (value-plus e.cost.terms (composition_of f.cost (after n e)).terms (at s z));
       moves = y.moves ∙ ap (values f.update) (sym v) ∙ sym (forms_at_values f.update (after n e) (at s z));
     }

@@ -4,23 +4,9 @@ use Rattle.std.proofs.Common.{sym, ◌∙◌, ap, ap₂, subst, arith, inl, inr,
 use Rattle.std.proofs.lemmas.Bool.{ltb-true, ltb-false, le-ltb, eqb-true, eqb-false, eq-eqb, ne_eqb}
 use Rattle.std.proofs.lemmas.Bool.{cases_order}
 use Rattle.std.proofs.lemmas.List.{length_push}
-use Rattle.dc_math.specs.Members.{Among, head, tail, among-one, among-left, among-right, among-++}
+use Rattle.dc_math.specs.Members.{Among, head, tail, among-one, among-left, among-right, among-++, among_cons}
 use Rattle.dc_system.specs.Folded.{number_in, numbers_below, without}
 use Rattle.dc_system.specs.Spots.{times_in, IsLast}
-
-first_or : {A : Type 0} {x y : A} {ys : List A} → Among x (y ∷ ys) → (x ≡ y) ⊎ Among x ys
-first_or head = inl refl
-first_or (tail i) = inr i
-
-pub kept_in : {A : Type 0} (p : A → Bool) (x : A) (xs : List A) → p x ≡ true → Among x xs → Among x (filter p xs)
-kept_in p x [] h i = elim i [ ]
-kept_in p x (y ∷ xs) h i = by (p y) refl (first_or i) (λ j. kept_in p x xs h j)
-  where
-    by : (b : Bool) → p y ≡ b → (x ≡ y) ⊎ Among x xs → (Among x xs → Among x (filter p xs)) → Among x (cond b (y ∷ filter p xs) (filter p xs))
-    by true q (inl e) r = subst (λ z. Among x (z ∷ filter p xs)) e head
-    by true q (inr j) r = tail (r j)
-    by false q (inl e) r = let o : true ≡ false = sym h ∙ ap p e ∙ q in cc
-    by false q (inr j) r = r j
 
 pub record InBoth {A : Type 0} (p : A → Bool) (x : A) (xs : List A) : Type 0 where
   pub among : Among x xs
@@ -38,7 +24,7 @@ in_kept p x (y ∷ xs) i = by (p y) refl (in_kept p x xs) i
     here q (inr i) r = behind (r i)
 
     by : (b : Bool) → p y ≡ b → (Among x (filter p xs) → InBoth p x xs) → Among x (cond b (y ∷ filter p xs) (filter p xs)) → InBoth p x (y ∷ xs)
-    by true q r i = here q (first_or i) r
+    by true q r i = here q (among_cons i) r
     by false q r i = behind (r i)
 
 pub length-filter : {A : Type 0} (p : A → Bool) (xs : List A) → length (filter p xs) ≤ length xs
@@ -52,7 +38,7 @@ length-filter p (x ∷ xs) = by (p x) (length-filter p xs)
 -- an item that does not pass is gone
 pub length-filter_less : {A : Type 0} (p : A → Bool) (x : A) (xs : List A) → p x ≡ false → Among x xs → length (filter p xs) < length xs
 length-filter_less p x [] h i = elim i [ ]
-length-filter_less p x (y ∷ xs) h i = by (p y) refl (first_or i) (length-filter p xs) (λ j. length-filter_less p x xs h j)
+length-filter_less p x (y ∷ xs) h i = by (p y) refl (among_cons i) (length-filter p xs) (λ j. length-filter_less p x xs h j)
   where
     by : (b : Bool) → p y ≡ b → (x ≡ y) ⊎ Among x xs → length (filter p xs) ≤ length xs → (Among x xs → length (filter p xs) < length xs) → length (cond b (y ∷ filter p xs) (filter p xs)) < suc (length xs)
     by true q (inl e) l r = let o : true ≡ false = sym q ∙ ap p (sym e) ∙ h in cc
@@ -72,7 +58,7 @@ number_rises (i ∷ left) j k h = by (ltb i j) refl (ltb i k) refl (number_rises
 
 pub number_more : (left : List ℕ) (j k : ℕ) → j < k → Among j left → number_in left j < number_in left k
 number_more [] j k h i = elim i [ ]
-number_more (y ∷ left) j k h i = by (ltb y j) refl (ltb y k) refl (first_or i) (number_rises left j k (omega arith)) (λ m. number_more left j k h m)
+number_more (y ∷ left) j k h i = by (ltb y j) refl (ltb y k) refl (among_cons i) (number_rises left j k (omega arith)) (λ m. number_more left j k h m)
   where
     by : (b : Bool) → ltb y j ≡ b → (c : Bool) → ltb y k ≡ c → (j ≡ y) ⊎ Among j left → number_in left j ≤ number_in left k → (Among j left → number_in left j < number_in left k) → cond b 1 0 + number_in left j < cond c 1 0 + number_in left k
     by true p true q (inl e) l r = let x = ltb-true y j p in absurd (omega arith)

@@ -2,8 +2,8 @@
 use Rattle.std.specs.Prelude.{◌≡◌, ◌↔◌, ◌⊎◌, ℕ, Bool, true, false, not, ◌||◌, eqb, if◌then◌else◌, List, [], ◌∷◌, map, length, ℤ, ◌+ℤ◌, Some, None, refl}
 use Rattle.std.proofs.Common.{sym, ◌∙◌, ap, subst, inl, inr}
 use Rattle.std.proofs.Math.IntN.{+ℤ_assoc}
-use Rattle.std.proofs.lemmas.Bool.{eqb-true, eqb-false, eq-eqb, ne_eqb}
-use Rattle.dc_math.specs.Members.{Among, head, among-one, among_map, mapped_among}
+use Rattle.std.proofs.lemmas.Bool.{eqb-true, eqb-false, eq-eqb, ne_eqb, or_parts}
+use Rattle.dc_math.specs.Members.{Among, head, among-one, among_map, mapped_among, among_filter}
 use Rattle.dc_syntax.specs.Value.{State}
 use Rattle.dc_syntax.specs.Table.{Then}
 use Rattle.dc_system.specs.declared.edges.Edge.{Edge}
@@ -11,7 +11,7 @@ use Rattle.dc_system.specs.Paths.{Step, Path, here, along}
 use Rattle.dc_system.specs.Shapes.{IsEdge}
 use Rattle.dc_system.specs.Composed.{compose_of, Crosses}
 use Rattle.dc_system.specs.Folded.{into, out_of, joint, fold_at, folded}
-use Rattle.dc_system.proofs.Filters.{kept_in, InBoth, in_kept}
+use Rattle.dc_system.proofs.Filters.{InBoth, in_kept}
 use Rattle.dc_system.proofs.Crossings.{Made, made_by, step_length, composed_crosses}
 
 -- ---- what a foldable location has
@@ -26,18 +26,14 @@ pub record Joined (n x l : ℕ) (es : List Edge) (c : Edge) : Type 0 where
   pub no_loop_out : second.to ≡ l → ⊥
   pub made : compose_of n first second ≡ Some c
 
-or_false : (a b : Bool) → (a || b) ≡ false → (a ≡ false) × (b ≡ false)
-or_false true b h = cc
-or_false false b h = (refl, h)
-
 pub joined_at : (n x l : ℕ) (es : List Edge) (c : Edge) → fold_at n x es l ≡ Some c → Joined n x l es c
 joined_at n x l es c h = by (eqb l 0 || eqb l x) refl (into l es) (out_of l es) refl refl h
   where
     one : (e f : Edge) → (eqb l 0 || eqb l x) ≡ false → into l es ≡ e ∷ [] → out_of l es ≡ f ∷ [] → (b : Bool) → (eqb e.from l || eqb f.to l) ≡ b → (if b then None else compose_of n e f) ≡ Some c → Joined n x l es c
     one e f q i o true p h = cc
     one e f q i o false p h =
-        let a = or_false (eqb l 0) (eqb l x) q in
-        let b = or_false (eqb e.from l) (eqb f.to l) p in
+        let a = or_parts (eqb l 0) (eqb l x) q in
+        let b = or_parts (eqb e.from l) (eqb f.to l) p in
         record { first = e; second = f; not_entry = eqb-false l 0 a.0; not_exit = eqb-false l x a.1; goes_in = i; goes_out = o; no_loop_in = eqb-false e.from l b.0; no_loop_out = eqb-false f.to l b.1; made = h }
 
     by : (b : Bool) → (eqb l 0 || eqb l x) ≡ b → (is os : List Edge) → into l es ≡ is → out_of l es ≡ os → (if b then None else joint n l is os) ≡ Some c → Joined n x l es c
@@ -69,10 +65,10 @@ module _ (n x l : ℕ) (es : List Edge) (c : Edge) (J : Joined n x l es c) where
   second_from = eqb-true J.second.from l second_among.passes
 
   only_in : (g : Edge) → Among g es → g.to ≡ l → g ≡ J.first
-  only_in g i q = among-one (subst (Among g) J.goes_in (kept_in (λ (e : Edge). eqb e.to l) g es (eq-eqb g.to l q) i))
+  only_in g i q = among-one (subst (Among g) J.goes_in (among_filter (λ (e : Edge). eqb e.to l) g es (eq-eqb g.to l q) i))
 
   only_out : (g : Edge) → Among g es → g.from ≡ l → g ≡ J.second
-  only_out g i q = among-one (subst (Among g) J.goes_out (kept_in (λ (e : Edge). eqb e.from l) g es (eq-eqb g.from l q) i))
+  only_out g i q = among-one (subst (Among g) J.goes_out (among_filter (λ (e : Edge). eqb e.from l) g es (eq-eqb g.from l q) i))
 
   whole : Made n J.first J.second c
   whole = made_by n J.first J.second c J.made
@@ -102,12 +98,12 @@ module _ (n x l : ℕ) (es : List Edge) (c : Edge) (J : Joined n x l es c) where
 
   stays : (g : Edge) → Among g es → (g.to ≡ l → ⊥) → (g.from ≡ l → ⊥) → Among g (folded l c es)
   stays g i a b =
-      kept_in (λ (e : Edge). not (eqb e.from l)) g (map swapped es) (ap not (ne_eqb g.from l b))
+      among_filter (λ (e : Edge). not (eqb e.from l)) g (map swapped es) (ap not (ne_eqb g.from l b))
       (subst (λ y. Among y (map swapped es)) (ap (λ t. if t then c else g) (ne_eqb g.to l a)) (among_map swapped i))
 
   new : Among c (folded l c es)
   new =
-      kept_in (λ (e : Edge). not (eqb e.from l)) c (map swapped es) (ap not (ne_eqb c.from l (λ q. J.no_loop_in (sym c_from ∙ q))))
+      among_filter (λ (e : Edge). not (eqb e.from l)) c (map swapped es) (ap not (ne_eqb c.from l (λ q. J.no_loop_in (sym c_from ∙ q))))
       (subst (λ y. Among y (map swapped es)) (ap (λ t. if t then c else J.first) first_among.passes) (among_map swapped first_among.among))
 
   -- ---- paths

@@ -18,7 +18,7 @@ use Rattle.dc_poly.proofs.FewTerms.{normal_light}
 pub form_light : (m : ℕ) (p : Polynomial) → IsForm m p → weight p.terms ≤ 78 * most
 form_light m p h = normal_light p.places p.terms h.kind.few h.kind.in_order h.kind.padded h.narrow
 
-have_places : (m : ℕ) (vs : List Polynomial) → AllByRecursion (IsForm m) vs → HavePlaces m vs
+pub have_places : (m : ℕ) (vs : List Polynomial) → AllByRecursion (IsForm m) vs → HavePlaces m vs
 have_places m [] h = tt
 have_places m (v ∷ vs) h = (h.0.has_places, have_places m vs h.1)
 

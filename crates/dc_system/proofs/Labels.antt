@@ -1,8 +1,8 @@
 -- Every label of an accepted body passes.
-use Rattle.std.specs.Prelude.{◌≡◌, ℕ, ◌+◌, ◌≤◌, Bool, true, false, ◌&&◌, leb, ltb, List, [], ◌∷◌, ◌++◌, map, None, refl}
+use Rattle.std.specs.Prelude.{◌≡◌, ℕ, ◌+◌, ◌≤◌, Bool, true, false, ◌&&◌, leb, ltb, List, [], ◌∷◌, ◌++◌, map, None}
 use Rattle.std.specs.List.{AllByRecursion}
-use Rattle.std.proofs.Common.{sym, ◌∙◌, ap, subst, inl, inr}
-use Rattle.std.proofs.lemmas.Bool.{leb-true}
+use Rattle.std.proofs.Common.{sym, ◌∙◌, subst, inl, inr}
+use Rattle.std.proofs.lemmas.Bool.{leb-true, and_parts}
 use Rattle.dc_math.specs.Members.{Among, among-one, among-++}
 use Rattle.dc_syntax.specs.declared.tree.Cond.{Cond}
 use Rattle.dc_syntax.specs.declared.tree.Stmt.{Stmt, Stmt-F, roll-Stmt, map-Stmt, fold-roll-Stmt}
@@ -13,11 +13,11 @@ use Rattle.dc_affine.specs.Forms.{is_below, affine_fault}
 use Rattle.dc_affine.specs.Table.{Fact, facts_of}
 use Rattle.dc_affine.specs.Atoms.{cond_is_below, dnf_fault}
 use Rattle.dc_affine.specs.Whole.{each, pass_step, statement_passes, all_pass}
-use Rattle.dc_affine.proofs.FormLaws.{and_both}
+use Rattle.dc_affine.proofs.FormLaws.{none_parts}
 use Rattle.dc_graph.specs.Labels.{Label, Arrow, arrow, branch, idle, tests}
 use Rattle.dc_graph.specs.Pieces.{Piece, sizes, first, all_arrows, layer, piece, pieces, piece_in, exit_of, arrows_of}
 use Rattle.dc_program.specs.Limits.{cond_literals_fit, cond_operators, cond_is_limited, limits_step, stmt_is_limited, all_limited}
-use Rattle.dc_system.proofs.Passes.{Parts, parts, each_all, none_parts}
+use Rattle.dc_system.proofs.Passes.{Parts, parts, each_all}
 use Rattle.dc_system.proofs.Points.{IsCase, LabelPasses}
 use Rattle.dc_system.proofs.Cases.{cases_pass}
 
@@ -42,7 +42,7 @@ choice : (n k j l : ℕ) (c : Cond) → cond_is_below n c ≡ true → dnf_fault
 choice n k j l c b p q o = labelled-++ n (branch k j (facts_of c false)) (branch k l (facts_of c true)) (labelled_branch n k j (facts_of c false) (cases_pass n c false b p o)) (labelled_branch n k l (facts_of c true) (cases_pass n c true b q o))
 
 few_operators : (c : Cond) → cond_is_limited c ≡ true → cond_operators c ≤ 64
-few_operators c h = leb-true (cond_operators c) 64 (and_both (cond_literals_fit c) (leb (cond_operators c) 64) h).1
+few_operators c h = leb-true (cond_operators c) 64 (and_parts (cond_literals_fit c) (leb (cond_operators c) 64) h).1
 
 abbrev Kept : ℕ → Stmt → Type 0
 Kept n S = statement_passes n S ≡ true → stmt_is_limited S ≡ true → (k l : ℕ) → Labelled n ((piece S).arrows k l)
@@ -50,8 +50,8 @@ Kept n S = statement_passes n S ≡ true → stmt_is_limited S ≡ true → (k l
 labelled_block : (n : ℕ) (A : List Stmt) → AllByRecursion (Kept n) A → all_pass n A ≡ true → all_limited A ≡ true → (k l : ℕ) → Labelled n (all_arrows (pieces A) k l)
 labelled_block n [] h b o k l = λ e i. elim i [ ]
 labelled_block n (S ∷ R) h b o k l =
-    let p = and_both (statement_passes n S) (all_pass n R) b in
-    let q = and_both (stmt_is_limited S) (all_limited R) o in
+    let p = and_parts (statement_passes n S) (all_pass n R) b in
+    let q = and_parts (stmt_is_limited S) (all_limited R) o in
     labelled-++ n ((piece S).arrows k (first (pieces R) (k + (piece S).size) l)) (all_arrows (pieces R) (k + (piece S).size) l)
     (h.0 p.0 q.0 k (first (pieces R) (k + (piece S).size) l))
     (labelled_block n R h.1 p.1 q.1 (k + (piece S).size) l)
@@ -62,25 +62,25 @@ inner_block n A h b o k l = labelled_block n A h (sym (each_all n A) ∙ b) o k 
 two_blocks : (n : ℕ) (A B : List Stmt) → AllByRecursion (Kept n) A × AllByRecursion (Kept n) B → (each (map (statement_passes n) A) && each (map (statement_passes n) B)) ≡ true → (all_limited A && all_limited B) ≡ true → (k l : ℕ)
     → Labelled n (all_arrows (pieces A) (k + 1) l ++ all_arrows (pieces B) (k + 1 + sizes (pieces A)) l)
 two_blocks n A B h b o k l =
-    let p = and_both (each (map (statement_passes n) A)) (each (map (statement_passes n) B)) b in
-    let q = and_both (all_limited A) (all_limited B) o in
+    let p = and_parts (each (map (statement_passes n) A)) (each (map (statement_passes n) B)) b in
+    let q = and_parts (all_limited A) (all_limited B) o in
     labelled-++ n (all_arrows (pieces A) (k + 1) l) (all_arrows (pieces B) (k + 1 + sizes (pieces A)) l)
     (inner_block n A h.0 p.0 q.0 (k + 1) l)
     (inner_block n B h.1 p.1 q.1 (k + 1 + sizes (pieces A)) l)
 
 at_layer : (n : ℕ) (L : Stmt-F Stmt) → EachStmt (Kept n) L → Parts n (map-Stmt Stmt Bool (statement_passes n) L) → limits_step (map-Stmt Stmt Bool stmt_is_limited L) ≡ true → (k l : ℕ) → Labelled n ((piece_in L).arrows k l)
 at_layer n Skip h p o k l = labelled_one n k l _ tt
-at_layer n (Assign x e) h p o k l = labelled_one n k l _ (record { below = (and_both (ltb x n) (is_below n e) p.below).1; faultless = p.faultless })
+at_layer n (Assign x e) h p o k l = labelled_one n k l _ (record { below = (and_parts (ltb x n) (is_below n e) p.below).1; faultless = p.faultless })
 at_layer n (AnyOf x) h p o k l = labelled_one n k l _ tt
 at_layer n (Between x a b) h p o k l =
-    let i = and_both (ltb x n && is_below n a) (is_below n b) p.below in
-    let j = and_both (ltb x n) (is_below n a) i.0 in
+    let i = and_parts (ltb x n && is_below n a) (is_below n b) p.below in
+    let j = and_parts (ltb x n) (is_below n a) i.0 in
     let f = none_parts (affine_fault n a) (affine_fault n b) p.faultless in
     labelled_one n k l _ (record { below = j.1; faultless = f.0 }, record { below = i.1; faultless = f.1 })
 at_layer n (Tick e) h p o k l = labelled_one n k l _ (record { below = p.below; faultless = p.faultless })
-at_layer n (Assume c) h p o k l = labelled_branch n k l (facts_of c false) (cases_pass n c false p.below p.faultless (few_operators c (and_both (cond_is_limited c) true o).0))
+at_layer n (Assume c) h p o k l = labelled_branch n k l (facts_of c false) (cases_pass n c false p.below p.faultless (few_operators c (and_parts (cond_is_limited c) true o).0))
 at_layer n (If c A B) h p o k l =
-    let q = and_both (cond_is_limited c) (all_limited A && all_limited B) o in
+    let q = and_parts (cond_is_limited c) (all_limited A && all_limited B) o in
     let f = none_parts (dnf_fault n c false) (dnf_fault n c true) p.faultless in
     labelled-++ n (branch k (first (pieces A) (k + 1) l) (facts_of c false) ++ branch k (first (pieces B) (k + 1 + sizes (pieces A)) l) (facts_of c true)) (all_arrows (pieces A) (k + 1) l ++ all_arrows (pieces B) (k + 1 + sizes (pieces A)) l)
     (choice n k (first (pieces A) (k + 1) l) (first (pieces B) (k + 1 + sizes (pieces A)) l) c p.below f.0 f.1 (few_operators c q.0)) (two_blocks n A B h p.inside q.1 k l)
@@ -88,7 +88,7 @@ at_layer n (IfAny A B) h p o k l =
     labelled-++ n (arrow k (first (pieces A) (k + 1) l) idle ∷ arrow k (first (pieces B) (k + 1 + sizes (pieces A)) l) idle ∷ []) (all_arrows (pieces A) (k + 1) l ++ all_arrows (pieces B) (k + 1 + sizes (pieces A)) l)
     (labelled_two n k (first (pieces A) (k + 1) l) (first (pieces B) (k + 1 + sizes (pieces A)) l)) (two_blocks n A B h p.inside o k l)
 at_layer n (While c A) h p o k l =
-    let q = and_both (cond_is_limited c) (all_limited A) o in
+    let q = and_parts (cond_is_limited c) (all_limited A) o in
     let f = none_parts (dnf_fault n c false) (dnf_fault n c true) p.faultless in
     labelled-++ n (branch k (first (pieces A) (k + 1) k) (facts_of c false) ++ branch k l (facts_of c true)) (all_arrows (pieces A) (k + 1) k)
     (choice n k (first (pieces A) (k + 1) k) l c p.below f.0 f.1 (few_operators c q.0)) (inner_block n A h p.inside q.1 (k + 1) k)

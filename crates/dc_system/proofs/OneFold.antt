@@ -1,6 +1,7 @@
 -- One system alone is another one folded.
 use Rattle.std.proofs.Common.{◌≡◌, ◌⊎◌, ℕ, zero, suc, ◌-◌, ◌<◌, List, map, length, refl, sym, ap, subst, ◌∙◌, arith, inl, inr, Some, None}
 use Rattle.std.specs.declared.option.Option.{Option}
+use Rattle.std.proofs.lemmas.Option.{same_Some}
 use Rattle.dc_system.specs.declared.edges.Edge.{Edge}
 use Rattle.dc_system.specs.declared.edges.System.{System}
 use Rattle.dc_system.specs.Folded.{fold_at, folded, without, Folding, unfolded, fold_least, renumbered, IsFolded}
@@ -39,9 +40,6 @@ same_location n x es l m c d e b f g = by (order l m)
     by (inr (inl h)) = h
     by (inr (inr h)) = absurd (no (fold_at n x es m) d (b m h) f)
 
-some_same : (c d : Edge) → Some c ≡ Some d → c ≡ d
-some_same c d h = cc
-
 record Same (left right : List ℕ) (es fs : List Edge) : Type 0 where
   locations : left ≡ right
   edges : es ≡ fs
@@ -56,7 +54,7 @@ same_after n x start begun (one_more {left = left} {es = es} f l c e b) (one_mor
         let e2 : fold_at n x fs l ≡ Some c = ap (λ z. fold_at n x z l) (sym s.edges) ∙ e in
         let b2 : (k : ℕ) → k < l → fold_at n x fs k ≡ None = (λ k w. ap (λ z. fold_at n x z k) (sym s.edges) ∙ b k w) in
         let i : l ≡ m = same_location n x fs l m c d e2 b2 h q in
-        let j : c ≡ d = some_same c d (sym e2 ∙ (ap (fold_at n x fs) i ∙ h)) in
+        let j : c ≡ d = same_Some c d (sym e2 ∙ (ap (fold_at n x fs) i ∙ h)) in
         record { locations = (λ z. without (i z) (s.locations z)); edges = (λ z. folded (i z) (j z) (s.edges z)) }
 
 -- where nothing is left to fold, no further fold follows

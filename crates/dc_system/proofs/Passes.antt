@@ -1,9 +1,8 @@
 -- What a statement that passes has, by its kind.
 use Rattle.std.specs.Prelude.{◌≡◌, ℕ, ◌+◌, ◌<◌, Bool, true, false, ◌&&◌, ltb, List, [], ◌∷◌, map, length, Some, None, refl}
 use Rattle.std.specs.declared.option.Option.{Option}
-use Rattle.std.specs.Option.{option_or}
 use Rattle.std.proofs.Common.{sym, ◌∙◌, ap, drop, get_or}
-use Rattle.std.proofs.lemmas.Bool.{ltb-true}
+use Rattle.std.proofs.lemmas.Bool.{ltb-true, and_parts}
 use Rattle.std.proofs.lemmas.List.{drop_more}
 use Rattle.dc_syntax.specs.declared.tree.Expr.{Expr}
 use Rattle.dc_syntax.specs.declared.tree.Cond.{Cond}
@@ -14,7 +13,7 @@ use Rattle.dc_affine.specs.declared.form.FormFault.{FormFault}
 use Rattle.dc_affine.specs.Forms.{is_below, fault_of, affine_fault}
 use Rattle.dc_affine.specs.Atoms.{cond_is_below, dnf_fault}
 use Rattle.dc_affine.specs.Whole.{statement_fault, statement_below, no_fault, each, inner, pass_step, statement_passes, all_pass}
-use Rattle.dc_affine.proofs.FormLaws.{and_both}
+use Rattle.dc_affine.proofs.FormLaws.{none_parts}
 
 pub passes_in : (n : ℕ) (S : Stmt) (L : Stmt-F Stmt) → out-Stmt S ≡ L → statement_passes n S ≡ true → pass_step n (map-Stmt Stmt Bool (statement_passes n) L) ≡ true
 passes_in n S L o h = ap (λ l. pass_step n (map-Stmt Stmt Bool (statement_passes n) l)) (sym o) ∙ sym (fold_out-Stmt Bool (pass_step n) S) ∙ h
@@ -22,10 +21,6 @@ passes_in n S L o h = ap (λ l. pass_step n (map-Stmt Stmt Bool (statement_passe
 none_of : (o : Option FormFault) → no_fault o ≡ true → o ≡ None
 none_of None h = refl
 none_of (Some f) h = cc
-
-pub none_parts : (o p : Option FormFault) → option_or o p ≡ None → (o ≡ None) × (p ≡ None)
-none_parts None p e = (refl, e)
-none_parts (Some f) p e = cc
 
 pub each_all : (n : ℕ) (A : List Stmt) → each (map (statement_passes n) A) ≡ all_pass n A
 each_all n [] = refl
@@ -39,8 +34,8 @@ pub record Parts (n : ℕ) (L : Stmt-F Bool) : Type 0 where
 
 pub parts : (n : ℕ) (L : Stmt-F Bool) → pass_step n L ≡ true → Parts n L
 parts n L h =
-    let p = and_both (statement_below n L && no_fault (statement_fault n L)) (inner L) h in
-    let q = and_both (statement_below n L) (no_fault (statement_fault n L)) p.0 in
+    let p = and_parts (statement_below n L && no_fault (statement_fault n L)) (inner L) h in
+    let q = and_parts (statement_below n L) (no_fault (statement_fault n L)) p.0 in
     record { below = q.0; faultless = none_of (statement_fault n L) q.1; inside = p.1 }
 
 abbrev PartsOf : ℕ → Stmt-F Stmt → Type 0
@@ -57,7 +52,7 @@ pub record AssignPasses (n x : ℕ) (e : Expr) : Type 0 where
 pub passes-Assign : (n : ℕ) (S : Stmt) (x : ℕ) (e : Expr) → S ≡ v.Assign x e → statement_passes n S ≡ true → AssignPasses n x e
 passes-Assign n S x e q h =
     let r = parts_of n S (Assign x e) (ap out-Stmt q ∙ v.outs-Assign x e) h in
-    let b = and_both (ltb x n) (is_below n e) r.below in
+    let b = and_parts (ltb x n) (is_below n e) r.below in
     record { target = ltb-true x n b.0; below = b.1; faultless = r.faultless }
 
 pub passes-AnyOf : (n : ℕ) (S : Stmt) (x : ℕ) → S ≡ v.AnyOf x → statement_passes n S ≡ true → x < n
@@ -71,8 +66,8 @@ pub record BetweenPasses (n x : ℕ) (a b : Expr) : Type 0 where
 pub passes-Between : (n : ℕ) (S : Stmt) (x : ℕ) (a b : Expr) → S ≡ v.Between x a b → statement_passes n S ≡ true → BetweenPasses n x a b
 passes-Between n S x a b q h =
     let r = parts_of n S (Between x a b) (ap out-Stmt q ∙ v.outs-Between x a b) h in
-    let p = and_both (ltb x n && is_below n a) (is_below n b) r.below in
-    let o = and_both (ltb x n) (is_below n a) p.0 in
+    let p = and_parts (ltb x n && is_below n a) (is_below n b) r.below in
+    let o = and_parts (ltb x n) (is_below n a) p.0 in
     record { target = ltb-true x n o.0; below = (o.1, p.1); faultless = none_parts (affine_fault n a) (affine_fault n b) r.faultless }
 
 pub record TickPasses (n : ℕ) (e : Expr) : Type 0 where
@@ -98,13 +93,13 @@ pub passes-If : (n : ℕ) (S : Stmt) (c : Cond) (A B : List Stmt) → S ≡ v.If
 passes-If n S c A B q h =
     let r = parts_of n S (If c A B) (ap out-Stmt q ∙ v.outs-If c A B) h in
     let p = none_parts (dnf_fault n c false) (dnf_fault n c true) r.faultless in
-    let i = and_both (each (map (statement_passes n) A)) (each (map (statement_passes n) B)) r.inside in
+    let i = and_parts (each (map (statement_passes n) A)) (each (map (statement_passes n) B)) r.inside in
     (record { below = r.below; yes = p.0; no = p.1 }, sym (each_all n A) ∙ i.0, sym (each_all n B) ∙ i.1)
 
 pub passes-IfAny : (n : ℕ) (S : Stmt) (A B : List Stmt) → S ≡ v.IfAny A B → statement_passes n S ≡ true → (all_pass n A ≡ true) × (all_pass n B ≡ true)
 passes-IfAny n S A B q h =
     let r = parts_of n S (IfAny A B) (ap out-Stmt q ∙ v.outs-IfAny A B) h in
-    let i = and_both (each (map (statement_passes n) A)) (each (map (statement_passes n) B)) r.inside in
+    let i = and_parts (each (map (statement_passes n) A)) (each (map (statement_passes n) B)) r.inside in
     (sym (each_all n A) ∙ i.0, sym (each_all n B) ∙ i.1)
 
 pub passes-While : (n : ℕ) (S : Stmt) (c : Cond) (A : List Stmt) → S ≡ v.While c A → statement_passes n S ≡ true → ChoicePasses n c × (all_pass n A ≡ true)
@@ -119,5 +114,5 @@ passes-WhileAny n S A q h = let r = parts_of n S (WhileAny A) (ap out-Stmt q ∙
 -- the statement at an index of a body, and those behind it
 pub passes_at : (n i : ℕ) (body : List Stmt) (d : Stmt) → i < length body → d ≡ get_or body i d → all_pass n (drop i body) ≡ true → (statement_passes n d ≡ true) × (all_pass n (drop (i + 1) body) ≡ true)
 passes_at n i body d h e k =
-    let p = and_both (statement_passes n (get_or body i d)) (all_pass n (drop (i + 1) body)) (sym (ap (all_pass n) (drop_more body i d h)) ∙ k) in
+    let p = and_parts (statement_passes n (get_or body i d)) (all_pass n (drop (i + 1) body)) (sym (ap (all_pass n) (drop_more body i d h)) ∙ k) in
     (ap (statement_passes n) e ∙ p.0, p.1)

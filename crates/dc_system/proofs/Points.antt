@@ -4,7 +4,7 @@ use Rattle.std.specs.List.{AllByRecursion}
 use Rattle.std.proofs.Common.{sym, ◌∙◌, ap, ap₂, subst, arith, add-one, take_all}
 use Rattle.std.proofs.lemmas.Int.{ints}
 use Rattle.std.proofs.lemmas.List.{take_more, take-append-le, length_push}
-use Rattle.std.proofs.lemmas.Bool.{ltb-true}
+use Rattle.std.proofs.lemmas.Bool.{ltb-true, and_parts}
 use Rattle.dc_syntax.specs.declared.tree.Expr.{Expr, Expr-F, roll-Expr, map-Expr, fold-roll-Expr}
 use Rattle.dc_syntax.specs.declared.tree.Expr.TheOpen as F
 use Rattle.dc_syntax.specs.declared.tree.Expr.TheVariants.{Var}
@@ -19,7 +19,7 @@ use Rattle.dc_poly.proofs.Values.{value-variable, value-constant}
 use Rattle.dc_affine.specs.Forms.{is_below, below_step, fault_of, form_of}
 use Rattle.dc_affine.specs.Table.{Fact, fact, fact_true, all_of}
 use Rattle.dc_affine.specs.Atoms.{all_hold, holds_at, atom_of}
-use Rattle.dc_affine.proofs.FormLaws.{form_value, and_both}
+use Rattle.dc_affine.proofs.FormLaws.{form_value}
 use Rattle.dc_affine.proofs.TableLaws.{le_of, of_le}
 use Rattle.dc_graph.specs.Labels.{Label, arrow, idle, sets, picks, picks_in, pays, tests}
 use Rattle.dc_graph.specs.Walks.{Acts, idles, set, picked, picked_in, paid, tested}
@@ -43,9 +43,9 @@ local_layer : (n : ℕ) (L : Expr-F Expr) → EachExpr (Local n) L → below_ste
 local_layer n (F.Num k) h b s z l = refl
 local_layer n (F.Var k) h b s z l = var_local k n s z (ltb-true k n b) l
 local_layer n (F.Neg a) h b s z l = ap neg_ℤ (h b s z l)
-local_layer n (F.Add x y) h b s z l = let p = and_both (is_below n x) (is_below n y) b in ap₂ ◌+ℤ◌ (h.0 p.0 s z l) (h.1 p.1 s z l)
-local_layer n (F.Sub x y) h b s z l = let p = and_both (is_below n x) (is_below n y) b in ap₂ ◌-ℤ◌ (h.0 p.0 s z l) (h.1 p.1 s z l)
-local_layer n (F.Mul x y) h b s z l = let p = and_both (is_below n x) (is_below n y) b in ap₂ ◌*ℤ◌ (h.0 p.0 s z l) (h.1 p.1 s z l)
+local_layer n (F.Add x y) h b s z l = let p = and_parts (is_below n x) (is_below n y) b in ap₂ ◌+ℤ◌ (h.0 p.0 s z l) (h.1 p.1 s z l)
+local_layer n (F.Sub x y) h b s z l = let p = and_parts (is_below n x) (is_below n y) b in ap₂ ◌-ℤ◌ (h.0 p.0 s z l) (h.1 p.1 s z l)
+local_layer n (F.Mul x y) h b s z l = let p = and_parts (is_below n x) (is_below n y) b in ap₂ ◌*ℤ◌ (h.0 p.0 s z l) (h.1 p.1 s z l)
 
 value_local : (n : ℕ) (e : Expr) → Local n e
 value_local n e = Expr-induction (Local n) (λ L h b s z l.

@@ -4,7 +4,7 @@ use Rattle.std.specs.List.{AllByRecursion}
 use Rattle.std.proofs.Common.{sym, ◌∙◌, ap, subst, arith, inl, inr}
 use Rattle.std.proofs.lemmas.Bool.{ne_eqb}
 use Rattle.std.proofs.lemmas.List.{length-map}
-use Rattle.dc_math.specs.Members.{Among, each_among, among_each, among_map, Mapped, mapped_among}
+use Rattle.dc_math.specs.Members.{Among, each_among, among_each, among_map, Mapped, mapped_among, among_filter}
 use Rattle.dc_syntax.specs.declared.tree.Proc.{Proc}
 use Rattle.dc_syntax.specs.Value.{State}
 use Rattle.dc_syntax.specs.Run.{Run}
@@ -17,7 +17,7 @@ use Rattle.dc_system.specs.Shapes.{IsUnchosen, IsEdge, IsWithin, IsWellFormed}
 use Rattle.dc_system.specs.Folded.{fold_at, folded, without, Folding, unfolded, fold_least, numbers_below, number_in, renumbered, IsFolded}
 use Rattle.dc_system.specs.Spots.{Between, IsLast, Net}
 use Rattle.dc_system.specs.Laws.{Through}
-use Rattle.dc_system.proofs.Filters.{kept_in, length-filter, number_rises, number_same, number_none, last_number, last_without, in_numbers, length-numbers, last_numbers}
+use Rattle.dc_system.proofs.Filters.{length-filter, number_rises, number_same, number_none, last_number, last_without, in_numbers, length-numbers, last_numbers}
 use Rattle.dc_system.proofs.Folds.{Joined, joined_at, c_from, c_to, was, first_in, second_in, fold_paths}
 use Rattle.dc_system.proofs.Composite.{compose_edge}
 use Rattle.dc_system.proofs.Runs.{paths_runs}
@@ -61,7 +61,7 @@ pub record Kept (start : List ℕ) (begun : List Edge) (n x : ℕ) (left : List 
   pub paths : (s : State) (a : ℤ) (t : State) → length s ≡ n → Path es 0 s a x t ↔ Path begun 0 s a x t
 
 left_still : (l k : ℕ) (left : List ℕ) → (k ≡ l → ⊥) → Among k left → Among k (without l left)
-left_still l k left h i = kept_in (λ j. not (eqb j l)) k left (ap not (ne_eqb k l h)) i
+left_still l k left h i = among_filter (λ j. not (eqb j l)) k left (ap not (ne_eqb k l h)) i
 
 length-folded : (l : ℕ) (c : Edge) (es : List Edge) → length (folded l c es) ≤ length es
 length-folded l c es =

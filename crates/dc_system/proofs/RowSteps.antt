@@ -2,7 +2,8 @@
 use Rattle.std.specs.Prelude.{◌≡◌, ℕ, zero, suc, ◌+◌, ◌*◌, ◌≤◌, ◌<◌, min, Bool, true, leb, List, [], ◌∷◌, drop, map, length, get_or, ℤ, pos, negsuc, ◌+ℤ◌, ◌*ℤ◌, unsigned_abs, refl}
 use Rattle.std.proofs.Common.{sym, ◌∙◌, ap, ap₂, subst, arith, SFits}
 use Rattle.std.specs.Int.{w128}
-use Rattle.std.proofs.lemmas.Int.{ints, fits_signed_from_abs}
+use Rattle.std.proofs.lemmas.Int.{fits_signed_from_abs}
+use Rattle.std.proofs.Math.IntN.{+ℤ_idl, +ℤ_idr}
 use Rattle.dc_math.specs.WholeRing.{ring, reads, read_nat, same_form}
 use Rattle.dc_poly.specs.Terms.{Exponents, TermList, term, coef, weight, degree_of, Places, Polynomial, polynomial, IsPolynomial}
 use Rattle.dc_poly.specs.Sums.{zeros, constant, constant_of, plus, shifted, times, times_mono, sum_of, product_of, values}
@@ -41,10 +42,7 @@ shifted-zeros n c [] h = refl
 shifted-zeros n c (t ∷ p) h = ap₂ (λ m q. term m (c *ℤ t.coef) ∷ q) (times_mono-zeros n t.mono h.0) (shifted-zeros n c p h.1)
 
 one_term : (n : ℕ) (c : ℤ) (p : TermList) (u : Exponents) → Places n p → coef (plus (shifted (zeros n) c p) []) u ≡ c *ℤ coef p u
-one_term n c p u h = coef-plus (shifted (zeros n) c p) [] u ∙ last (coef (shifted (zeros n) c p) u) ∙ ap (λ q. coef q u) (shifted-zeros n c p h) ∙ coef-shifted c p u
-  where
-    last : (x : ℤ) → x +ℤ pos 0 ≡ x
-    last x = omega (arith, ints)
+one_term n c p u h = coef-plus (shifted (zeros n) c p) [] u ∙ +ℤ_idr (coef (shifted (zeros n) c p) u) ∙ ap (λ q. coef q u) (shifted-zeros n c p h) ∙ coef-shifted c p u
 
 coef-constant_times : (c : ℤ) (n : ℕ) (p : TermList) (u : Exponents) → Places n p → coef (times (constant_of c n) p) u ≡ c *ℤ coef p u
 coef-constant_times (pos zero) n p u h = none (coef p u)
@@ -103,11 +101,8 @@ sum_start m cs vs p e h = record {
   kind = h;
   same_places = ap (λ (x : Polynomial). x.places) e;
   light = (let a : weight p.terms ≡ 0 = ap (λ (x : Polynomial). weight x.terms) e in omega arith);
-  coefs = λ u. ap (λ (x : Polynomial). coef x.terms u +ℤ coef_at cs vs u) e ∙ front (coef_at cs vs u);
+  coefs = λ u. ap (λ (x : Polynomial). coef x.terms u +ℤ coef_at cs vs u) e ∙ +ℤ_idl (coef_at cs vs u);
 }
-  where
-    front : (x : ℤ) → pos 0 +ℤ x ≡ x
-    front x = omega (arith, ints)
 
 pub sum_more : (m : ℕ) (cs : List ℤ) (vs : List Polynomial) (k : ℕ) (c : ℤ) (v o p : Polynomial) → k < length cs → k < length vs → c ≡ get_or cs k (pos 0) → v ≡ get_or vs k v → IsPolynomial p → p.places ≡ o.places
     → ((u : Exponents) → coef p.terms u ≡ coef o.terms u +ℤ c *ℤ coef v.terms u) → weight p.terms ≤ weight o.terms + most * (78 * most) → Summing m cs vs k o → Summing m cs vs (k + 1) p

@@ -5,7 +5,7 @@ use Rattle.std.specs.Option.{option_or}
 use Rattle.std.proofs.Common.{sym, ◌∙◌, ap, ap₂, arith, inl, inr, add-one}
 use Rattle.std.proofs.lemmas.Int.{ints}
 use Rattle.std.proofs.lemmas.List.{length_push}
-use Rattle.std.proofs.lemmas.Bool.{ltb-true, lt-ltb}
+use Rattle.std.proofs.lemmas.Bool.{ltb-true, lt-ltb, and_parts, and_from}
 use Rattle.dc_syntax.specs.declared.tree.Expr.{Expr, Sub, Expr-F, roll-Expr, map-Expr, fold-roll-Expr}
 use Rattle.dc_syntax.specs.declared.tree.Expr.TheOpen as F
 use Rattle.dc_syntax.specs.declared.tree.Cond.{Cond, Cond-F, roll-Cond, map-Cond, fold-roll-Cond}
@@ -21,7 +21,7 @@ use Rattle.dc_affine.specs.declared.form.FormFault.TheVariants.{NoMemory}
 use Rattle.dc_poly.specs.NormalForm.{most, coefs_fit}
 use Rattle.dc_affine.specs.Forms.{Formed, formed, form_step, fault_of, own_fault, affine_fault, bend, is_below, below_step, IsCause}
 use Rattle.dc_affine.specs.Atoms.{gap_of, gap_fault, comparison_fault, comparison_step, width_fault, dnf_fault, cond_is_below, cond_below_step}
-use Rattle.dc_affine.proofs.FormLaws.{form_value, form_proper, and_both, formed-Sub}
+use Rattle.dc_affine.proofs.FormLaws.{form_value, form_proper, formed-Sub}
 
 -- ---- one more exponent, which is 0
 abbrev pub wide : Exponents → Exponents
@@ -108,10 +108,6 @@ wide_coef_last n p j = rw (add-one n) (by p j)
 lt_of : (k n : ℕ) → ltb k n ≡ true → ltb k (n + 1) ≡ true
 lt_of k n h = let q = ltb-true k n h in lt-ltb k (n + 1) (omega arith)
 
-pub both : (a b : Bool) → a ≡ true → b ≡ true → (a && b) ≡ true
-both true b h k = k
-both false b h k = cc
-
 abbrev Below : ℕ → Expr → Type 0
 Below n e = is_below n e ≡ true → is_below (n + 1) e ≡ true
 
@@ -119,9 +115,9 @@ below_layer : (n : ℕ) (L : Expr-F Expr) → EachExpr (Below n) L → below_ste
 below_layer n (F.Num k) h b = refl
 below_layer n (F.Var k) h b = lt_of k n b
 below_layer n (F.Neg a) h b = h b
-below_layer n (F.Add x y) h b = let p = and_both (is_below n x) (is_below n y) b in both _ _ (h.0 p.0) (h.1 p.1)
-below_layer n (F.Sub x y) h b = let p = and_both (is_below n x) (is_below n y) b in both _ _ (h.0 p.0) (h.1 p.1)
-below_layer n (F.Mul x y) h b = let p = and_both (is_below n x) (is_below n y) b in both _ _ (h.0 p.0) (h.1 p.1)
+below_layer n (F.Add x y) h b = let p = and_parts (is_below n x) (is_below n y) b in and_from _ _ (h.0 p.0) (h.1 p.1)
+below_layer n (F.Sub x y) h b = let p = and_parts (is_below n x) (is_below n y) b in and_from _ _ (h.0 p.0) (h.1 p.1)
+below_layer n (F.Mul x y) h b = let p = and_parts (is_below n x) (is_below n y) b in and_from _ _ (h.0 p.0) (h.1 p.1)
 
 pub below_wider : (n : ℕ) (e : Expr) → Below n e
 below_wider n e = Expr-induction (Below n) (λ L h b.
@@ -135,10 +131,10 @@ CondBelow n c = cond_is_below n c ≡ true → cond_is_below (n + 1) c ≡ true
 cond_layer : (n : ℕ) (L : Cond-F Cond) → EachCond (CondBelow n) L → cond_below_step n (map-Cond Cond Bool (cond_is_below n) L) ≡ true → cond_below_step (n + 1) (map-Cond Cond Bool (cond_is_below (n + 1)) L) ≡ true
 cond_layer n G.True h b = refl
 cond_layer n G.False h b = refl
-cond_layer n (G.Cmp x r y) h b = let p = and_both (is_below n x) (is_below n y) b in both _ _ (below_wider n x p.0) (below_wider n y p.1)
+cond_layer n (G.Cmp x r y) h b = let p = and_parts (is_below n x) (is_below n y) b in and_from _ _ (below_wider n x p.0) (below_wider n y p.1)
 cond_layer n (G.Not c) h b = h b
-cond_layer n (G.And c d) h b = let p = and_both (cond_is_below n c) (cond_is_below n d) b in both _ _ (h.0 p.0) (h.1 p.1)
-cond_layer n (G.Or c d) h b = let p = and_both (cond_is_below n c) (cond_is_below n d) b in both _ _ (h.0 p.0) (h.1 p.1)
+cond_layer n (G.And c d) h b = let p = and_parts (cond_is_below n c) (cond_is_below n d) b in and_from _ _ (h.0 p.0) (h.1 p.1)
+cond_layer n (G.Or c d) h b = let p = and_parts (cond_is_below n c) (cond_is_below n d) b in and_from _ _ (h.0 p.0) (h.1 p.1)
 
 pub cond_below_wider : (n : ℕ) (c : Cond) → CondBelow n c
 cond_below_wider n c = Cond-induction (CondBelow n) (λ L h b.
@@ -174,9 +170,9 @@ fault_layer : (n : ℕ) (L : Expr-F Expr) → EachExpr (SameFault n) L → below
 fault_layer n (F.Num k) h b e = ap own_fault e ∙ own_wider (layer n (F.Num k)).terms
 fault_layer n (F.Var k) h b e = ap own_fault e ∙ own_wider (layer n (F.Var k)).terms
 fault_layer n (F.Neg a) h b e = ap₂ option_or (h b) (ap own_fault e ∙ own_wider (layer n (F.Neg a)).terms)
-fault_layer n (F.Add x y) h b e = let p = and_both (is_below n x) (is_below n y) b in ap₂ option_or (ap₂ option_or (h.0 p.0) (h.1 p.1)) (ap own_fault e ∙ own_wider (layer n (F.Add x y)).terms)
-fault_layer n (F.Sub x y) h b e = let p = and_both (is_below n x) (is_below n y) b in ap₂ option_or (ap₂ option_or (h.0 p.0) (h.1 p.1)) (ap own_fault e ∙ own_wider (layer n (F.Sub x y)).terms)
-fault_layer n (F.Mul x y) h b e = let p = and_both (is_below n x) (is_below n y) b in ap₂ option_or (ap₂ option_or (h.0 p.0) (h.1 p.1)) (ap own_fault e ∙ own_wider (layer n (F.Mul x y)).terms)
+fault_layer n (F.Add x y) h b e = let p = and_parts (is_below n x) (is_below n y) b in ap₂ option_or (ap₂ option_or (h.0 p.0) (h.1 p.1)) (ap own_fault e ∙ own_wider (layer n (F.Add x y)).terms)
+fault_layer n (F.Sub x y) h b e = let p = and_parts (is_below n x) (is_below n y) b in ap₂ option_or (ap₂ option_or (h.0 p.0) (h.1 p.1)) (ap own_fault e ∙ own_wider (layer n (F.Sub x y)).terms)
+fault_layer n (F.Mul x y) h b e = let p = and_parts (is_below n x) (is_below n y) b in ap₂ option_or (ap₂ option_or (h.0 p.0) (h.1 p.1)) (ap own_fault e ∙ own_wider (layer n (F.Mul x y)).terms)
 
 pub fault_wider : (n : ℕ) (e : Expr) → SameFault n e
 fault_wider n e = Expr-induction (SameFault n) (λ L h b.
@@ -199,7 +195,7 @@ gap_is : (n : ℕ) (a b : Expr) → gap_of n a b ≡ (formed n (Sub a b)).terms
 gap_is n a b = ap (λ (x : Formed). x.terms) (sym (formed-Sub n a b))
 
 pub gap_wider : (n : ℕ) (a b : Expr) → is_below n a ≡ true → is_below n b ≡ true → gap_of (n + 1) a b ≡ widened (gap_of n a b)
-gap_wider n a b p q = gap_is (n + 1) a b ∙ form_wider n (Sub a b) (below-Sub n a b ∙ both _ _ p q) ∙ ap widened (sym (gap_is n a b))
+gap_wider n a b p q = gap_is (n + 1) a b ∙ form_wider n (Sub a b) (below-Sub n a b ∙ and_from _ _ p q) ∙ ap widened (sym (gap_is n a b))
 
 abbrev SameGaps : ℕ → Cond → Type 0
 SameGaps n c = cond_is_below n c ≡ true → comparison_fault (n + 1) c ≡ comparison_fault n c
@@ -208,11 +204,11 @@ gaps_layer : (n : ℕ) (L : Cond-F Cond) → EachCond (SameGaps n) L → cond_be
 gaps_layer n G.True h b = refl
 gaps_layer n G.False h b = refl
 gaps_layer n (G.Cmp x r y) h b =
-    let p = and_both (is_below n x) (is_below n y) b in
+    let p = and_parts (is_below n x) (is_below n y) b in
     ap₂ option_or (fault_wider n x p.0) (ap₂ option_or (fault_wider n y p.1) (ap gap_fault (gap_wider n x y p.0 p.1) ∙ gap_fault_wider (gap_of n x y)))
 gaps_layer n (G.Not c) h b = h b
-gaps_layer n (G.And c d) h b = let p = and_both (cond_is_below n c) (cond_is_below n d) b in ap₂ option_or (h.0 p.0) (h.1 p.1)
-gaps_layer n (G.Or c d) h b = let p = and_both (cond_is_below n c) (cond_is_below n d) b in ap₂ option_or (h.0 p.0) (h.1 p.1)
+gaps_layer n (G.And c d) h b = let p = and_parts (cond_is_below n c) (cond_is_below n d) b in ap₂ option_or (h.0 p.0) (h.1 p.1)
+gaps_layer n (G.Or c d) h b = let p = and_parts (cond_is_below n c) (cond_is_below n d) b in ap₂ option_or (h.0 p.0) (h.1 p.1)
 
 pub comparison_wider : (n : ℕ) (c : Cond) → SameGaps n c
 comparison_wider n c = Cond-induction (SameGaps n) (λ L h b.

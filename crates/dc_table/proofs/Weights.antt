@@ -1,18 +1,18 @@
 -- How heavy columns are.
-use Rattle.std.specs.Prelude.{◌≡◌, ◌⊎◌, ℕ, zero, suc, ◌+◌, ◌*◌, ◌^◌, ◌<◌, ◌≤◌, Bool, true, false, cond, List, [], ◌∷◌, ◌++◌, flat_map, length, map, All, slice_index_or, ℤ, pos, negsuc, neg_ℤ, ◌+ℤ◌, sum_by, unsigned_abs, replicate}
+use Rattle.std.specs.Prelude.{◌≡◌, ℕ, zero, suc, ◌+◌, ◌*◌, ◌≤◌, Bool, true, false, cond, List, [], ◌∷◌, ◌++◌, flat_map, map, All, pos, ◌+ℤ◌, sum_by, unsigned_abs, replicate}
 use Rattle.std.specs.List.{AllByRecursion}
-use Rattle.std.proofs.Common.{refl, sym, ◌∙◌, ap, ap₂, subst, arith, inl, inr}
+use Rattle.std.proofs.Common.{refl, sym, ◌∙◌, subst, arith}
 use Rattle.std.proofs.lemmas.Int.{ints}
 use Rattle.std.proofs.lemmas.List.Sums.{sum_by-cons, sum_by-append}
-use Rattle.dc_math.specs.Members.{Among, each-++}
+use Rattle.dc_math.specs.Members.{each-++}
 use Rattle.dc_math.specs.OrderedLists.{Ordered}
+use Rattle.dc_math.specs.Integers.{size-+ℤ}
 use Rattle.dc_lp.specs.declared.Entry.{Entry}
 use Rattle.dc_lp.specs.Problems.{weight}
 use Rattle.dc_poly.specs.Terms as terms
 use Rattle.dc_poly.specs.declared.monomial.Term.{Term}
 use Rattle.dc_poly.specs.Terms.{Exponents, TermList, Polynomial, same_mono, coef, Before}
 use Rattle.dc_poly.specs.Sums.{negated}
-use Rattle.dc_poly.specs.NormalForm.{normal_weight}
 use Rattle.dc_poly.proofs.Graded.{Before-not}
 use Rattle.dc_poly.proofs.Canon.{same_mono_is}
 use Rattle.dc_poly.proofs.Sizes.{weight-negated, power_more}
@@ -26,9 +26,6 @@ use Rattle.dc_claims.specs.Problems.{polynomials_at}
 use Rattle.dc_claims.specs.Blocks.{IsBlock, IsPart}
 use Rattle.dc_table.specs.declared.table.Table.{Table}
 use Rattle.dc_table.specs.Tables.{lists, entries_of, opposite_entries, both_entries, extended, IsExtended, IsEmptyTable, part_weight, product_weight, IsWeighed}
-
-size_sum : (x y : ℤ) → unsigned_abs (x +ℤ y) ≤ unsigned_abs x + unsigned_abs y
-size_sum x y = omega (arith, ints)
 
 -- ---- the coefficients at different monomials are no heavier than the polynomial
 abbrev once : TermList → List Exponents → ℕ
@@ -66,7 +63,7 @@ split_term t p (m ∷ ms) =
     omega arith
   where
     one : (b : Bool) → unsigned_abs (cond b t.coef (pos 0) +ℤ coef p m) ≤ cond b (unsigned_abs t.coef) 0 + unsigned_abs (coef p m)
-    one true = size_sum t.coef (coef p m)
+    one true = size-+ℤ t.coef (coef p m)
     one false = omega (arith, ints)
 
 none_at_all : (ms : List Exponents) → once [] ms ≡ 0

@@ -4,7 +4,8 @@ use Rattle.dc_lp.specs.declared.Problem.{Problem}
 use Rattle.dc_lp.specs.Problems.{linear_of}
 use Rattle.dc_math.specs.Tests as tests
 use Rattle.dc_lp.specs.Meanings.{Meaning, IsCell, IsPivotCell, at, width, resting, ready_at, start, pivoted}
-use Rattle.dc_simplex.proofs.Steps.{start-basis, start-real, pivoted-basis, pivoted-real}
+use Rattle.dc_lp.proofs.Fills.{pivoted-real, pivoted-basis}
+use Rattle.dc_simplex.proofs.Steps.{start-basis, start-real}
 use Rattle.dc_tableau_trials.specs.Sizes.{IsOver, IsReadyAt}
 
 pub over_start : (x : Meaning) (p : Problem) (n : ℕ) → x ≡ resting (start p) → n ≡ length p.columns.items → IsOver x p.rows n

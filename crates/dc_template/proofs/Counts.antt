@@ -9,9 +9,6 @@ use Rattle.dc_poly.proofs.Counts.{pascal}
 abbrev count : ℕ → ℕ → ℕ
 count n d = length (monomials_of n d)
 
-pub no_degree : (n : ℕ) → length (monomials_of n 0) ≡ 1
-no_degree n = pascal.empty n
-
 pub next : (n d x : ℕ) → 1 ≤ d → x ≡ length (monomials_of n (d - 1)) → x * (n + d) / d ≡ length (monomials_of n d)
 next n d x h e = pascals.next count pascal n d x h e
 

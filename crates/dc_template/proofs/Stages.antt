@@ -4,10 +4,11 @@ use Rattle.std.proofs.Common.{sym, ◌∙◌, ap, ap₂, subst, arith, get_or, d
 use Rattle.std.proofs.Math.Nat.{pow-zero, pow-succ'}
 use Rattle.std.proofs.lemmas.List.{drop_more, drop_all}
 use Rattle.dc_math.specs.WholeRing.{ring, reads, read_nat, same_form}
+use Rattle.dc_math.specs.Integers.{*ℤ-one}
 use Rattle.dc_poly.specs.Terms.{Exponents, degree, degree_of, weight, largest, power, mono_value, value, Polynomial, IsPolynomial}
 use Rattle.dc_poly.specs.Sums.{constant, product_of, values}
 use Rattle.dc_poly.specs.Conditions.{CanMul, HavePlaces}
-use Rattle.dc_poly.proofs.Sizes.{mul_both, power_more, weight-times, weight-constant}
+use Rattle.dc_poly.proofs.Sizes.{mul_both, power_more, weight-times, weight-constant, power-+}
 use Rattle.dc_poly.proofs.Degrees.{degree-times, degree-constant}
 use Rattle.dc_poly.specs.NormalForm.{IsNormalForm, normal_weight}
 use Rattle.dc_template.specs.Columns.{column_places}
@@ -91,16 +92,8 @@ split_values k u [] xs h q = absurd (omega arith)
 split_values zero u (w ∷ us) xs h q = ap (λ (r : Polynomial). value r.terms xs ∷ values us xs) (sym q)
 split_values (suc k) u (w ∷ us) xs h q = split_values k u us xs (omega arith) q ∙ ap (λ j. value u.terms xs ∷ drop j (value w.terms xs ∷ values us xs)) (let j : suc (k + 1) ≡ suc k + 1 = omega arith in j)
 
-power-more : (w a b : ℕ) → w ^ (a + b) ≡ w ^ a * w ^ b
-power-more w zero b = ap (λ i. w ^ i) (let j : zero + b ≡ b = omega arith in j) ∙ rw pow-zero (let j : w ^ b ≡ 1 * w ^ b = omega arith in j)
-power-more w (suc a) b =
-    ap (λ i. w ^ i) (let j : suc a + b ≡ suc (a + b) = omega arith in j) ∙ pow-succ' w (a + b) ∙ ap (λ y. w * y) (power-more w a b) ∙ turn w (w ^ a) (w ^ b) ∙ ap (λ y. y * w ^ b) (sym (pow-succ' w a))
-  where
-    turn : (x y z : ℕ) → x * (y * z) ≡ (x * y) * z
-    turn x y z = omega arith
-
 weight_split : (k e : ℕ) (m : Exponents) → k < length m → e ≡ get_or m k 0 → normal_weight ^ degree (drop k m) ≡ normal_weight ^ e * normal_weight ^ degree (drop (k + 1) m)
-weight_split k e m h q = ap (λ l. normal_weight ^ degree l) (split k e m h q) ∙ power-more normal_weight e (degree (drop (k + 1) m))
+weight_split k e m h q = ap (λ l. normal_weight ^ degree l) (split k e m h q) ∙ power-+ normal_weight e (degree (drop (k + 1) m))
 
 -- what the power requires
 pub column_low : (us : List Polynomial) (m : Exponents) (k e : ℕ) (p : Polynomial) → degree m ≤ 3 → k < length m → e ≡ get_or m k 0 → Column us m k p → degree_of p.terms + 2 * e ≤ 12
@@ -148,10 +141,7 @@ none_left k m h = drop_all k m h
 
 pub column_value : (us : List Polynomial) (m : Exponents) (k : ℕ) (p : Polynomial) → length m ≤ k → Column us m k p → (xs : List ℤ) → value p.terms xs ≡ mono_value m (values us xs)
 column_value us m k p h s xs =
-    by_one (value p.terms xs) ∙ ap (λ l. value p.terms xs *ℤ mono_value l (drop k (values us xs))) (sym (none_left k m h)) ∙ s.exact xs
-  where
-    by_one : (y : ℤ) → y ≡ y *ℤ pos 1
-    by_one y = ring (y ∷ []) (λ ρ i. simp (i, read_nat ρ, reads) (same_form _ _ _ refl))
+    sym (*ℤ-one (value p.terms xs)) ∙ ap (λ l. value p.terms xs *ℤ mono_value l (drop k (values us xs))) (sym (none_left k m h)) ∙ s.exact xs
 
 pub column_degree : (us : List Polynomial) (m : Exponents) (k : ℕ) (p : Polynomial) → length m ≤ k → Column us m k p → degree_of p.terms ≤ 2 * degree m
 column_degree us m k p h s = let a = s.low in omega arith

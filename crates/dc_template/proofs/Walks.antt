@@ -10,7 +10,8 @@ use Rattle.dc_poly.proofs.Degrees.{degree-times_mono, degree-unit_at, degree-zer
 use Rattle.dc_poly.specs.Monomials.{raised, of_degree, below, monomials_of}
 use Rattle.dc_template.specs.Monomials.{joined, continued}
 use Rattle.dc_poly.proofs.Listed.{IsExact, exact}
-use Rattle.dc_template.proofs.Counts.{next, no_degree, count_small}
+use Rattle.dc_poly.proofs.Counts.{no_degree}
+use Rattle.dc_template.proofs.Counts.{next, count_small}
 
 times-zeros : (m : Exponents) (n : ℕ) → n ≤ length m → times_mono m (zeros n) ≡ m
 times-zeros [] zero h = refl
@@ -47,7 +48,7 @@ zeros-append : (a b : ℕ) → zeros a ++ zeros b ≡ zeros (a + b)
 zeros-append zero b = ap zeros (let q : b ≡ zero + b = omega arith in q)
 zeros-append (suc a) b = ap (λ l. 0 ∷ l) (zeros-append a b) ∙ ap zeros (let q : suc (a + b) ≡ suc a + b = omega arith in q)
 
-degree_zero : (n : ℕ) → of_degree n 0 ≡ zeros n ∷ []
+pub degree_zero : (n : ℕ) → of_degree n 0 ≡ zeros n ∷ []
 degree_zero zero = refl
 degree_zero (suc n) = ap (map (λ m. 0 ∷ m)) (degree_zero n)
 

@@ -3,14 +3,12 @@ use Rattle.std.proofs.Common.{◌≡◌, ℕ, zero, suc, ◌<◌, ◌≤◌, Boo
 use Rattle.std.specs.Prelude.{if◌then◌else◌}
 use Rattle.std.specs.List.{list_all}
 use Rattle.std.proofs.lemmas.Bool.Decides.{nat_tests}
+use Rattle.std.proofs.lemmas.Bool.{not-true}
+use Rattle.std.proofs.Math.Bool.{and-false}
 use Rattle.dc_tokens.specs.declared.token.TokenKind.{TokenKind}
 use Rattle.dc_tokens.specs.declared.token.TokenKind.TheVariants as k
 use Rattle.dc_tokens.specs.Spelling.{is_letter, is_digit, is_word_byte, word_kind, short_sign, long_sign, sign_kind, kind_of}
 use Rattle.dc_tokens.specs.Pieces.{NoToken, Longest}
-
-pub and_false : (b : Bool) → b && false ≡ false
-and_false true = refl
-and_false false = refl
 
 pub and_left : (a b : Bool) → a && b ≡ true → a ≡ true
 and_left true b h = refl
@@ -19,10 +17,6 @@ and_left false b h = absurd cc
 pub and_right : (a b : Bool) → a && b ≡ true → b ≡ true
 and_right true b h = h
 and_right false b h = absurd cc
-
-not_so : (a : Bool) → not a ≡ true → a ≡ false
-not_so true h = absurd cc
-not_so false h = refl
 
 letter_no_digit : (b : ℕ) → is_letter b ≡ true → is_digit b ≡ false
 letter_no_digit b h = grind (arith, nat_tests)
@@ -44,7 +38,7 @@ FailsAll p ns = list_all (λ n. not (p n)) ns ≡ true
 
 fails_one : (p : ℕ → Bool) (ns : List ℕ) → FailsAll p ns → (i : ℕ) → i < length ns → p (get_or ns i 0) ≡ false
 fails_one p [] h i l = absurd (omega arith)
-fails_one p (n ∷ ns) h zero l = not_so (p n) (and_left (not (p n)) _ h)
+fails_one p (n ∷ ns) h zero l = not-true (p n) (and_left (not (p n)) _ h)
 fails_one p (n ∷ ns) h (suc i) l = fails_one p ns (and_right (not (p n)) _ h) i (omega arith)
 
 -- a byte with such a test begins no sign
@@ -106,7 +100,7 @@ not_past : (p : ℕ → Bool) (w : List ℕ) (n m : ℕ) → n < m → n < lengt
 not_past p [] n m g l h = absurd (omega arith)
 not_past p (b ∷ w) n zero g l h = absurd (omega arith)
 not_past p (b ∷ w) zero (suc m) g l h = rw h refl
-not_past p (b ∷ w) (suc n) (suc m) g l h = rw (not_past p w n m (omega arith) (omega arith) h) (and_false (p b))
+not_past p (b ∷ w) (suc n) (suc m) g l h = rw (not_past p w n m (omega arith) (omega arith) h) (and-false (p b))
 
 -- a run of bytes that pass a test, where that makes it a token, and where a text that goes on with another byte is none
 run_longest : (kind : List ℕ → TokenKind) (p : ℕ → Bool) (b : ℕ) (w : List ℕ) (n : ℕ)

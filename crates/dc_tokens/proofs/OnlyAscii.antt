@@ -7,13 +7,14 @@ use Rattle.std.proofs.lemmas.Bool.Decides.{nat_tests}
 use Rattle.std.proofs.lemmas.List.{get_or-take}
 use Rattle.std.proofs.lemmas.Str.{IsAscii-append}
 use Rattle.std.proofs.lemmas.Str.Ascii.{IsAscii-nil, IsAscii-cons, IsAscii-from_reads}
+use Rattle.std.proofs.Math.Bool.{and-false}
 use Rattle.dc_tokens.specs.declared.token.TokenKind.{TokenKind}
 use Rattle.dc_tokens.specs.declared.token.TokenKind.TheVariants as k
 use Rattle.dc_tokens.specs.declared.token.Token.{Token}
 use Rattle.dc_tokens.specs.Spelling.{is_letter, is_digit, is_word_byte, word_kind, short_sign, long_sign, sign_kind, kind_of}
 use Rattle.dc_tokens.specs.Pieces.{is_separator, is_comment_byte, BeginsComment, IsComment, Piece, separator, comment, token}
 use Rattle.dc_tokens.specs.Texts.{Tokens, end, piece}
-use Rattle.dc_tokens.proofs.Front.{and_left, and_right, and_false, not_equal, no_short, no_long, word_text, number_text, sign_text}
+use Rattle.dc_tokens.proofs.Front.{and_left, and_right, not_equal, no_short, no_long, word_text, number_text, sign_text}
 
 low_or_high : (b : ℕ) (t : Bool) → nat_le 128 b ≡ t → (t ≡ true → ⊥) → b < 128
 low_or_high b true e h = absurd (h refl)
@@ -37,12 +38,12 @@ no_second a b h =
       differs 61 (omega arith),
       differs 38 (omega arith),
       differs 124 (omega arith),
-      and_false (nat_eq a 61),
-      and_false (nat_eq a 33),
-      and_false (nat_eq a 60),
-      and_false (nat_eq a 62),
-      and_false (nat_eq a 38),
-      and_false (nat_eq a 124),
+      and-false (nat_eq a 61),
+      and-false (nat_eq a 33),
+      and-false (nat_eq a 60),
+      and-false (nat_eq a 62),
+      and-false (nat_eq a 38),
+      and-false (nat_eq a 124),
     ) refl
 
 high_of : (b : ℕ) → nat_le 128 b ≡ true → 128 ≤ b

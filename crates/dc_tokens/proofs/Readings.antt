@@ -1,6 +1,8 @@
 -- A text has one reading.
 use Rattle.std.proofs.Common.{◌≡◌, ℕ, zero, suc, ◌+◌, ◌<◌, ◌≤◌, ◌⊎◌, inl, inr, Bool, true, false, nat_eq, nat_lt, nat_le, List, [], ◌∷◌, length, take, drop, get_or, Option, Some, None, refl, ap, sym, ◌∙◌, subst, arith, length-drop}
 use Rattle.std.proofs.lemmas.Bool.Decides.{nat_tests}
+use Rattle.std.proofs.lemmas.Bool.{ltb-true}
+use Rattle.std.proofs.lemmas.Option.{same_Some}
 use Rattle.dc_tokens.specs.declared.token.TokenKind.{TokenKind}
 use Rattle.dc_tokens.specs.declared.token.TokenKind.TheVariants as k
 use Rattle.dc_tokens.specs.declared.token.Token.{Token}
@@ -54,11 +56,8 @@ one_longest bs n m j k l h = omega (arith, not_less l h, not_less h l)
     not_less : {n m : ℕ} {j k : TokenKind} → Longest bs n j → Longest bs m k → n < m → ⊥
     not_less {n} {m} {j} {k} l h g = let e : None ≡ Some k = sym (l.longest m g h.within) ∙ h.spelled in cc
 
-some_same : {A : Type 0} {a b : A} → Some a ≡ Some b → a ≡ b
-some_same e = cc
-
 one_kind : (bs : List ℕ) (n m : ℕ) (j k : TokenKind) → n ≡ m → Longest bs n j → Longest bs m k → j ≡ k
-one_kind bs n m j k e l h = some_same (sym l.spelled ∙ (ap (λ i. kind_of (take i bs)) e ∙ h.spelled))
+one_kind bs n m j k e l h = same_Some _ _ (sym l.spelled ∙ (ap (λ i. kind_of (take i bs)) e ∙ h.spelled))
 
 -- a comment's first byte
 slash_first : (bs : List ℕ) → BeginsComment bs → (w : List ℕ) × (bs ≡ 47 ∷ w)
@@ -252,9 +251,6 @@ record Stops (bs : List ℕ) (n : ℕ) : Type 0 where
   front : IsCommentFront bs n
   stops : n < length bs → is_comment_byte (get_or bs n 0) ≡ false
 
-below : (n m : ℕ) → nat_lt n m ≡ true → n < m
-below n m h = grind (arith, nat_tests)
-
 not_below : (n m : ℕ) → nat_lt n m ≡ false → n < m → ⊥
 not_below n m h g = grind (arith, nat_tests)
 
@@ -277,7 +273,7 @@ comment_end (suc f) bs n h l = go (nat_lt n (length bs)) refl (is_comment_byte (
     go : (s : Bool) → nat_lt n (length bs) ≡ s → (t : Bool) → is_comment_byte (get_or bs n 0) ≡ t → (IsCommentFront bs (suc n) → (m : ℕ) × Stops bs m) → (m : ℕ) × Stops bs m
     go false e t d again = (n, record { front = h; stops = λ g. absurd (not_below n (length bs) e g) })
     go true e false d again = (n, record { front = h; stops = λ g. d })
-    go true e true d again = again (one_more bs n h (below n (length bs) e) d)
+    go true e true d again = again (one_more bs n h (ltb-true n (length bs) e) d)
 
 feed_or_not : (b : ℕ) → (b ≡ 10) ⊎ (b ≡ 10 → ⊥)
 feed_or_not b = go (nat_eq b 10) refl
@@ -292,7 +288,7 @@ comment_front at bs n h = go (nat_lt n (length bs)) refl (feed_or_not (get_or bs
     go : (s : Bool) → nat_lt n (length bs) ≡ s → (get_or bs n 0 ≡ 10) ⊎ (get_or bs n 0 ≡ 10 → ⊥) → Front at bs
     go false e f = is_piece (comment_at at bs n h.front (λ l. absurd (not_below n (length bs) e l)))
     go true e (inl f) = is_piece (comment_at at bs n h.front (λ l. f))
-    go true e (inr f) = is_wrong (bad_comment_at at bs n h.front (below n (length bs) e) (h.stops (below n (length bs) e)) f)
+    go true e (inr f) = is_wrong (bad_comment_at at bs n h.front (ltb-true n (length bs) e) (h.stops (ltb-true n (length bs) e)) f)
 
 -- ---- what stands at the front
 

@@ -1,19 +1,12 @@
 -- Answers with a test, put together.
 use Rattle.std.specs.Prelude.{◌≡◌, Bool, true, false, ◌&&◌, Option, Some, None, refl}
 use Rattle.std.proofs.Common.{sym, ◌∙◌, ap, ap₂}
+use Rattle.std.proofs.Math.Bool.{and-false}
 use Rattle.dc_trace.specs.Tests.{Gives}
 
 pub and_true : (t : Bool) → (t && true) ≡ t
 and_true true = refl
 and_true false = refl
-
-pub and_false : (t : Bool) → (t && false) ≡ false
-and_false true = refl
-and_false false = refl
-
-pub and_assoc : (s t u : Bool) → ((s && t) && u) ≡ (s && (t && u))
-and_assoc true t u = refl
-and_assoc false t u = refl
 
 -- the same test and the same value, written otherwise
 pub gives_same : {A : Type 0} (r : Option A) (T t : Bool) (V v : A) → T ≡ t → V ≡ v → Gives r t v → Gives r T V
@@ -29,7 +22,7 @@ pub two_made : {B : Type 0} (r : Option B) (T own ta tb : Bool) (V v : B) → T 
 two_made r T own ta tb V v e q h k g = gives_same r T own V v (e ∙ ap₂ (λ x y. own && (x && y)) h k ∙ and_true own) q g
 
 pub two_left : {B : Type 0} (r : Option B) (T own ta tb : Bool) (V : B) → T ≡ (own && (ta && tb)) → r ≡ None → ta ≡ false → Gives r T V
-two_left r T own ta tb V e n h = gives_none r T V n (e ∙ ap (λ x. own && (x && tb)) h ∙ and_false own)
+two_left r T own ta tb V e n h = gives_none r T V n (e ∙ ap (λ x. own && (x && tb)) h ∙ and-false own)
 
 pub two_right : {B : Type 0} (r : Option B) (T own ta tb : Bool) (V : B) → T ≡ (own && (ta && tb)) → r ≡ None → tb ≡ false → Gives r T V
-two_right r T own ta tb V e n h = gives_none r T V n (e ∙ ap (λ x. own && (ta && x)) h ∙ ap (λ x. own && x) (and_false ta) ∙ and_false own)
+two_right r T own ta tb V e n h = gives_none r T V n (e ∙ ap (λ x. own && (ta && x)) h ∙ ap (λ x. own && x) (and-false ta) ∙ and-false own)

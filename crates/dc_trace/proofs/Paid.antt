@@ -3,6 +3,7 @@ use Rattle.std.specs.Prelude.{◌≡◌, ℕ, zero, suc, List, [], ◌∷◌, �
 use Rattle.std.proofs.Common.{sym, ◌∙◌, ap, subst, arith}
 use Rattle.std.proofs.lemmas.Int.{ints}
 use Rattle.std.proofs.Math.IntN.{+ℤ_idr}
+use Rattle.std.proofs.lemmas.Bool.{and_parts}
 use lib.Signed.{le_z_yes}
 use Rattle.dc_syntax.specs.declared.tree.Cond.{Cond}
 use Rattle.dc_syntax.specs.declared.tree.Stmt.{Stmt, Stmt-F, out-Stmt}
@@ -19,10 +20,6 @@ use Rattle.dc_trace.proofs.Turns.{on_same, stop_not, allowed_on, limited_on}
 
 pub le_of : (a b : ℤ) → int_le a b ≡ true → a ≤ℤ b
 le_of a b e = le_z_yes (subst T (sym e) tt)
-
-pub both_true : (s t : Bool) → (s && t) ≡ true → (s ≡ true) × (t ≡ true)
-both_true true t e = (refl, e)
-both_true false t e = cc
 
 -- each run from y is the end of a run from x, at the same cost in all
 abbrev pub Back : List Stmt → State → ℤ → Config → Type 0
@@ -74,7 +71,7 @@ act_back S (AnyOf k) R s c (z ∷ zs) y o e =
 act_back S (Between k a b) R s c [] y o e = absurd (stop_not no_choice y e)
 act_back S (Between k a b) R s c (z ∷ zs) y o e =
     let p = allowed_on (int_le (value a s) z && int_le z (value b s)) (config R (slice_set s k z) c zs) y e in
-    let q = both_true (int_le (value a s) z) (int_le z (value b s)) p.0 in
+    let q = and_parts (int_le (value a s) z) (int_le z (value b s)) p.0 in
     back_to (S ∷ R) s c _ y p.1
     (step_back S R s (slice_set s k z) c (pos 0) c zs (subst (λ l. One l s (pos 0) (slice_set s k z)) (sym o) (between k a b z (le_of (value a s) z q.0) (le_of z (value b s) q.1))) (sym (+ℤ_idr c)))
 act_back S (Tick a) R s c zs y o e = back_to (S ∷ R) s c _ y e (step_back S R s s c (value a s) (c +ℤ value a s) zs (subst (λ l. One l s (value a s) s) (sym o) (tick a)) refl)

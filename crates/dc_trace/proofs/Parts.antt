@@ -2,6 +2,7 @@
 use Rattle.std.specs.Prelude.{◌≡◌, ℕ, ◌<◌, ◌^◌, List, [], ◌∷◌, ◌++◌, slice_index_or, ℤ, pos, ◌+ℤ◌, ◌-ℤ◌, ◌*ℤ◌, neg_ℤ, Bool, true, false, not, ◌&&◌, ◌||◌, int_le, Option, Some, None, refl}
 use Rattle.std.proofs.Common.{sym, ◌∙◌, ap, ap₂, subst, arith}
 use Rattle.std.proofs.lemmas.Bool.{lt-ltb}
+use Rattle.std.proofs.Math.Bool.{and_assoc, and-false}
 use Rattle.dc_syntax.specs.declared.tree.Expr.{Expr, Num, Var, Neg, Add, Sub, Mul, Expr-F, roll-Expr, fold-Expr, fold-roll-Expr}
 use Rattle.dc_syntax.specs.declared.tree.Expr.TheOpen as F
 use Rattle.dc_syntax.specs.declared.tree.Rel.{Rel}
@@ -14,7 +15,7 @@ use Rattle.dc_syntax.proofs.Parts.{value-Num, value-Var, value-Neg, value-Add, v
 use Rattle.dc_trace.specs.Parts.{Parts, all_parts, parts_step, subexpressions, compared_step, compared_parts}
 use Rattle.dc_trace.specs.Replay.{all_fit, is_small}
 use Rattle.dc_trace.specs.Tests.{Gives, expr_fits, cond_fits, range_fits, Evaluates, Judges, IsWithin}
-use Rattle.dc_trace.proofs.Given.{and_true, and_false, and_assoc, gives_same, gives_none, two_made, two_left, two_right}
+use Rattle.dc_trace.proofs.Given.{and_true, gives_same, gives_none, two_made, two_left, two_right}
 
 -- ---- an expression is the first of its subexpressions
 abbrev parts : Expr → Parts
@@ -122,7 +123,7 @@ made-Neg r s e a x z i j h g =
 pub none-Neg : (r : Option ℤ) (s : State) (e a x : Expr) → r ≡ None → e ≡ Neg a → x ≡ a → expr_fits s x ≡ false → Evaluates r s e
 none-Neg r s e a x n i j h =
     subst (Evaluates r s) (sym i)
-    (gives_none r (expr_fits s (Neg a)) (value (Neg a) s) n (fits-Neg s a ∙ ap (λ t. is_small (neg_ℤ (value a s)) && t) (subst (λ y. expr_fits s y ≡ false) j h) ∙ and_false (is_small (neg_ℤ (value a s)))))
+    (gives_none r (expr_fits s (Neg a)) (value (Neg a) s) n (fits-Neg s a ∙ ap (λ t. is_small (neg_ℤ (value a s)) && t) (subst (λ y. expr_fits s y ≡ false) j h) ∙ and-false (is_small (neg_ℤ (value a s)))))
 
 -- two operands, by the operation on their values and the equations of the operator
 module _ (op : ℤ → ℤ → ℤ) (s : State) (m : Expr → Expr → Expr) (f : (a b : Expr) → expr_fits s (m a b) ≡ (is_small (op (value a s) (value b s)) && (expr_fits s a && expr_fits s b))) (v : (a b : Expr) → value (m a b) s ≡ op (value a s) (value b s)) where

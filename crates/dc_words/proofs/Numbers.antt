@@ -5,6 +5,7 @@ use Rattle.std.specs.Str.Parse.{IsNumeral, starts_with_minus, without_leading_pl
 use Rattle.std.proofs.lemmas.Bool.{ne_eqb}
 use Rattle.std.proofs.lemmas.Str.Parse.{digit_from_value}
 use Rattle.std.proofs.lemmas.Int.{ints}
+use Rattle.std.proofs.lemmas.Option.{same_Some}
 use Rattle.clap.specs.Lexer.{without_minus}
 use Rattle.clap.specs.Walk.{Text, Rule}
 use Rattle.clap.specs.Values.{IsSignedIn, IsUnsignedIn}
@@ -81,12 +82,9 @@ fits_number found id low high bound h lt = record {
   small = omega (arith, h.range.most);
 }
 
-some_same : {X : Type 0} (x y : X) → Some x ≡ Some y → x ≡ y
-some_same x y e = cc
-
 -- and what was read is that number
 pub number_in : (found : Found) (id : Text) (low high n : ℕ) → HasNumber found id low high → option_map number_of (one_text found id) ≡ Some n → (low ≤ n) × (n ≤ high)
 number_in found id low high n h read =
     let same : Some (number_of h.text) ≡ Some n = rw h.one at read in
-    let is : number_of h.text ≡ n = some_same (number_of h.text) n same in
+    let is : number_of h.text ≡ n = same_Some (number_of h.text) n same in
     (omega (arith, is, h.range.least), omega (arith, is, h.range.most))

@@ -4,6 +4,7 @@ use Rattle.std.specs.List.{list_any}
 use Rattle.std.specs.Str.{bytes_eq}
 use Rattle.std.specs.Prelude.{option_map}
 use Rattle.std.proofs.lemmas.Slice.Eq.{bytes_eq-Decides}
+use Rattle.std.proofs.lemmas.Option.{same_Some}
 use Rattle.clap.specs.Walk.{Text}
 use Rattle.clap.specs.Matches.{first_value}
 use Rattle.clap.specs.declared.parser.matches.Found.{Found}
@@ -26,9 +27,6 @@ one_of_two text false false true is e f h =
     absurd (true≢false bad)
 one_of_two text false false false is e f h = absurd (true≢false (sym h))
 
-some_same : {X : Type 0} (x y : X) → Some x ≡ Some y → x ≡ y
-some_same x y e = cc
-
 pub rows_in : (found : Found) (names : Lent) (b : Bool) → IsRowNames names → IsHeld found (rows_rule names)
     → option_map (λ t. bytes_eq t (codes "pairs")) (first_value found (codes "rows")) ≡ Some b → first_value found (codes "rows") ≡ Some (row_name b)
 rows_in found names b two held read =
@@ -36,4 +34,4 @@ rows_in found names b two held read =
     let in_texts = sym (list_any-map (λ n. bytes_eq n held.text) (λ s. s.now) names.now) ∙ among in
     let in_names : list_any (λ n. bytes_eq n held.text) row_names ≡ true = rw two at in_texts in
     let same : Some (bytes_eq held.text (codes "pairs")) ≡ Some b = rw held.first at read in
-    held.first ∙ ap Some (one_of_two held.text b _ _ (some_same _ _ same) refl refl in_names)
+    held.first ∙ ap Some (one_of_two held.text b _ _ (same_Some _ _ same) refl refl in_names)

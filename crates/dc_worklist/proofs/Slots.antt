@@ -4,6 +4,7 @@ use Rattle.std.proofs.Math.ListN.{set, length-set}
 use Rattle.std.specs.List.{AllByRecursion}
 use Rattle.std.proofs.lemmas.Bool.{cases_lt, cases_eq, both_ways, cases_Bool, eq-eqb, ne_eqb, lt-ltb, le-ltb}
 use Rattle.std.proofs.lemmas.List.{get_or-set_same, get_or-set_other}
+use Rattle.std.proofs.lemmas.Option.{same_Some}
 use Rattle.dc_worklist.specs.declared.work_list.Links.{Links}
 use Rattle.dc_worklist.specs.Listed.{Rising, is_listed, with_number}
 use Rattle.dc_worklist.specs.Links.{slot_at, is_linked, linked_from, IsNext, followed, preceded, with_after, with_before}
@@ -96,9 +97,6 @@ pub record WasBefore (ps : List (Option Links)) (k j : Option ℕ) (i : ℕ) (q 
   pub after : q.after ≡ old.after
   pub before : ((Some i ≡ k) × (q.before ≡ j)) ⊎ ((Some i ≢ k) × (q.before ≡ old.before))
 
-some_same : (k i : ℕ) → Some i ≡ Some k → i ≡ k
-some_same k i e = cc
-
 is_at : (ps : List (Option Links)) (k i : ℕ) (o : Option Links) (q : Links) → is_linked ps k ≡ is_some o → slot_at (set ps k o) i ≡ Some q → ((i ≡ k) × (o ≡ Some q)) ⊎ ((i ≢ k) × (slot_at ps i ≡ Some q))
 is_at ps k i o q s h = elim (cases_eq i k) [
   | inl e ↦ elim (cases_lt k (length ps)) [
@@ -113,7 +111,7 @@ pub after_was : (ps : List (Option Links)) (k j : Option ℕ) (i : ℕ) (q : Lin
 after_was ps None j i q h = record { old = q; was = h; before = refl; after = inr ((λ e. cc), refl) }
 after_was ps (Some k) j i q h = elim (is_at ps k i (followed j (slot_at ps k)) q (sym (followed_some j (slot_at ps k))) h) [
   | inl e ↦ here (slot_at ps k) refl e.0 e.1
-  | inr e ↦ record { old = q; was = e.1; before = refl; after = inr ((λ s. e.0 (some_same k i s)), refl) }
+  | inr e ↦ record { old = q; was = e.1; before = refl; after = inr ((λ s. e.0 (same_Some i k s)), refl) }
 ]
   where
     here : (o : Option Links) → slot_at ps k ≡ o → i ≡ k → followed j o ≡ Some q → WasAfter ps (Some k) j i q
@@ -126,7 +124,7 @@ pub before_was : (ps : List (Option Links)) (k j : Option ℕ) (i : ℕ) (q : Li
 before_was ps None j i q h = record { old = q; was = h; after = refl; before = inr ((λ e. cc), refl) }
 before_was ps (Some k) j i q h = elim (is_at ps k i (preceded j (slot_at ps k)) q (sym (preceded_some j (slot_at ps k))) h) [
   | inl e ↦ here (slot_at ps k) refl e.0 e.1
-  | inr e ↦ record { old = q; was = e.1; after = refl; before = inr ((λ s. e.0 (some_same k i s)), refl) }
+  | inr e ↦ record { old = q; was = e.1; after = refl; before = inr ((λ s. e.0 (same_Some i k s)), refl) }
 ]
   where
     here : (o : Option Links) → slot_at ps k ≡ o → i ≡ k → preceded j o ≡ Some q → WasBefore ps (Some k) j i q

@@ -1,9 +1,8 @@
-use Rattle.std.proofs.Common.{◌∙◌, ap, sym, subst, arith, length, ◌+◌}
-use Rattle.std.proofs.lemmas.List.FromFn.{length-map-range_with_len}
-use Rattle.dc_poly.specs.Sums.{values, negated, plus}
+use Rattle.std.proofs.Common.{◌∙◌, ap, sym, length}
+use Rattle.dc_poly.specs.Sums.{values, negated}
 use Rattle.dc_poly.specs.Terms.{mono_value, Polynomial}
-use Rattle.dc_duties.proofs.AtStates.{variables, length-variables, is_before, is_behind, is_itself, is_at_inputs, normal_variables, places_variables, starting, length-starting, normal_starting, places_starting}
-use Rattle.dc_duties.proofs.Sides.{exit_not, ok_so, ok_both, when_not, when_is, all_normal, all_places, part_negated}
+use Rattle.dc_duties.proofs.AtStates.{length-variables, is_itself, normal_variables, places_variables}
+use Rattle.dc_duties.proofs.Sides.{exit_not, ok_so, ok_both, when_is, part_negated}
 use Rattle.dc_claims.specs.Parts.{itself, part_at_exit}
 use Rattle.dc_claims.specs.Duties.{exit_of}
 use Rattle.dc_duties.proofs.parts.at_exit.Goals as goal

@@ -2,10 +2,9 @@
 use Rattle.std.proofs.Common.{arith}
 use Rattle.std.proofs.lemmas.Result.{on_ok_weaker}
 use Rattle.dc_points.specs.Points.{Entails}
-use Rattle.dc_points.proofs.Flags.{flag-false}
+use Rattle.dc_points.proofs.Flags.{flag-false, flags_many}
 use Rattle.dc_families.specs.Moves.{at_start}
 use Rattle.dc_greatest.specs.Lent.{case_at}
-use Rattle.dc_greatest.proofs.CasesSoFar.{long_flags}
 use Rattle.dc_greatest.proofs.Passing.{flag_at, never_start}
 use Rattle.dc_greatest.proofs.Rows.{taken_all, taken_lowered}
 use Rattle.dc_greatest.proofs.pass.pass_case.Goals as goal
@@ -13,7 +12,7 @@ use Rattle.dc_greatest.proofs.pass.pass_case.Goals as goal
 pub bounds-t-k : goal.bounds-t-k
 bounds-t-k g c =
     let t = c.args.t.now in
-    let a = long_flags t.live.now t.cases.now c.requires.lent.flags in
+    let a = flags_many t.live.now t.cases.now c.requires.lent.flags in
     let b = c.requires.case in
     omega arith
 

@@ -5,8 +5,9 @@ use Rattle.dc_frac.specs.declared.Frac.{Frac}
 use Rattle.dc_cert.specs.Vectors.{nonzero_from}
 use Rattle.dc_entail.specs.declared.answer.Emptiness.{Emptiness}
 use Rattle.dc_entail.specs.Answers.{TellsEmptiness, TellsDead, TellsLive}
-use Rattle.dc_invariant.proofs.Tells.{dead_line, live_line, dead_flag, live_flag}
+use Rattle.dc_invariant.proofs.Tells.{dead_line, live_line}
 use Rattle.dc_invariant.proofs.asking.line.Goals as goal
+use Rattle.dc_points.proofs.Flags.{dead_flag, live_flag}
 
 pub returns-in_ok-sparse_of-in-Ok-Dead-clause-answer : goal.returns-in_ok-sparse_of-in-Ok-Dead-clause-answer
 returns-in_ok-sparse_of-in-Ok-Dead-clause-answer g c =

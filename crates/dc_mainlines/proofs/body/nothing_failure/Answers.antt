@@ -2,11 +2,12 @@ use Rattle.std.proofs.Common.{◌∷◌, [], ◌∙◌, sym, ap}
 use Rattle.dc_cert.specs.declared.certificate.Body.TheVariants.{Nothing}
 use Rattle.dc_clauses.specs.Steps.{counted, first_failure}
 use Rattle.dc_clauses.specs.Mains.{whole_problem, price_tests}
-use Rattle.dc_mainlines.proofs.Order.{stops, goes_on, behind_10}
+use Rattle.dc_clauses.proofs.Walks.{first_failure-stops}
+use Rattle.dc_mainlines.proofs.Order.{goes_on, behind_10}
 use Rattle.dc_mainlines.proofs.body.nothing_failure.Goals as goal
 
 pub returns-in-Some : goal.returns-in-Some
-returns-in-Some c = stops (counted 10 0 (price_tests (whole_problem c.args.p.now) c.args.unknowns (Nothing c.args.dual.now))) (behind_10 (whole_problem c.args.p.now) c.args.unknowns (Nothing c.args.dual.now)) c.in-Some.step (sym c.in-Some.is ∙ c.in_ok-step.ensures)
+returns-in-Some c = first_failure-stops (counted 10 0 (price_tests (whole_problem c.args.p.now) c.args.unknowns (Nothing c.args.dual.now))) (behind_10 (whole_problem c.args.p.now) c.args.unknowns (Nothing c.args.dual.now)) c.in-Some.step (sym c.in-Some.is ∙ c.in_ok-step.ensures)
 
 pub returns : goal.returns
 returns c =

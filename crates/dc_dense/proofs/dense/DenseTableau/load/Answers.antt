@@ -1,7 +1,8 @@
 use Rattle.std.proofs.Common.{◌≡◌, ◌∙◌, ◌+◌, ◌*◌, ap, arith, length}
 use Rattle.dc_start.specs.Starts.{width}
+use Rattle.dc_start.proofs.Loads.{made-length}
 use Rattle.dc_lp.specs.Problems.{columns}
-use Rattle.dc_dense.proofs.Loads.{loaded-at, made-length}
+use Rattle.dc_dense.proofs.Loads.{loaded-at}
 use Rattle.dc_dense.proofs.dense.DenseTableau.load.Goals as goal
 
 pub invariant_of-self-2 : goal.invariant_of-self-2
