@@ -8,7 +8,7 @@ use Rattle.dc_syntax.specs.declared.tree.Proc.{Proc}
 use Rattle.dc_syntax.specs.declared.tree.Side.{Side}
 use Rattle.dc_syntax.specs.declared.tree.Side.TheVariants.{New, Old}
 use Rattle.dc_syntax.specs.declared.tree.Count.{Count}
-use Rattle.dc_syntax.specs.declared.tree.Count.TheVariants.{Locations, Edges, Rows, Bounds}
+use Rattle.dc_syntax.specs.declared.tree.Count.TheVariants.{Rows, Bounds}
 use Rattle.dc_affine.specs.declared.atom.Atom.{Atom}
 use Rattle.dc_affine.specs.Atoms.{IsAtom, IsFullAtom, AllCases}
 use Rattle.dc_affine.proofs.Within.{flat_atoms}
@@ -54,7 +54,7 @@ use Rattle.dc_check.specs.Pairs.{pair, flags}
 use Rattle.dc_check.specs.Systems.{IsSystemOf}
 use Rattle.dc_check.specs.Answers.{claim_steps, main_fault, IsFirst, FailsAt, Accepts}
 use Rattle.dc_session.specs.Session.{Input, candidates_for, Part, IsPart, Analysis, pair_of, flags_of, main_of}
-use Rattle.dc_session.specs.Refusals.{excess, of_system, of_rows, of_main, system_excess, rows_excess, early_excess}
+use Rattle.dc_session.specs.Refusals.{excess, of_rows, of_main, system_excess, rows_excess, early_excess}
 use Rattle.dc_session.specs.Made.{IsSideOf, AreCaseLines, unknowns_in}
 use Rattle.dc_session.proofs.Analyses.{first_none, are_of_greatest, system_within}
 use Rattle.dc_session.proofs.Repeated.{made_repeats}
@@ -65,13 +65,6 @@ use Rattle.dc_acceptance.proofs.Sides.{IsMadeSide, SidePasses, side_passes}
 use Rattle.dc_acceptance.proofs.Bodies.{shown_at_end, body_passes}
 
 -- ---- limits
-
-system_limits : (side : Side) (b d : Bool) (m n : ℕ)
-    → option_and_then (of_system side) (if b then Some (system.TooLarge Locations m) else (if d then Some (system.TooLarge Edges n) else None)) ≡ None
-    → (if b then Some (system.TooLarge Locations m) else (if d then Some (system.TooLarge Edges n) else None)) ≡ None
-system_limits side true d m n e = absurd (cc)
-system_limits side false true m n e = absurd (cc)
-system_limits side false false m n e = refl
 
 rows_limits : (side : Side) (b d : Bool) (m n : ℕ)
     → option_and_then (of_rows side) (if b then Some (row.TooLarge Rows m) else (if d then Some (row.TooLarge Bounds n) else None)) ≡ None

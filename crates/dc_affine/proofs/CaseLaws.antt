@@ -90,9 +90,6 @@ same_atom n p q b k e = ap₂ (λ (x : ℤ) (y : List ℤ). atom x y) (ap (λ (x
 turned_atom : (n : ℕ) (a b : Expr) (k : ℕ) → gap_atom (polynomial n (gap_of n a b)) true k ≡ atom_of n (fact b a k)
 turned_atom n a b k = same_atom n (gap_of n a b) (gap_of n b a) true k (λ u. sym (coef-negated (gap_of n a b) u) ∙ ap (λ p. coef p u) (gap_turned n a b))
 
-kept_atom : (n : ℕ) (a b : Expr) (k : ℕ) → gap_atom (polynomial n (gap_of n a b)) false k ≡ atom_of n (fact a b k)
-kept_atom n a b k = refl
-
 pub gap_cases_are : (n : ℕ) (a b : Expr) (r : Rel) → gap_cases (polynomial n (gap_of n a b)) r ≡ atoms n (relation a r b)
 gap_cases_are n a b Le = ap (λ x. (x ∷ []) ∷ []) (turned_atom n a b 0)
 gap_cases_are n a b Lt = ap (λ x. (x ∷ []) ∷ []) (turned_atom n a b 1)

@@ -12,7 +12,7 @@ use Rattle.dc_cert.specs.declared.certificate.Claim.{Claim}
 use Rattle.dc_cert.specs.declared.certificate.Claim.TheVariants.{Threshold, Nothing, Vacuous}
 use Rattle.dc_cert.specs.declared.certificate.Certificate.{Certificate}
 use Rattle.dc_cert.specs.Claims.{claim_of}
-use Rattle.dc_certtext.specs.Text.{text_of, claim_lines, whole_line}
+use Rattle.dc_certtext.specs.Text.{text_of, claim_lines, whole_line, claim_line}
 use Rattle.dc_certtext.specs.Limits.{limit, HasText}
 use Rattle.dc_claims.specs.Duties.{Pair}
 use Rattle.dc_check.specs.Claims.{ShowsClaim}
@@ -30,7 +30,6 @@ use Rattle.dc_answers.specs.Sources.{SaysCases, Say}
 use Rattle.dc_answers.specs.Sources as sources
 use Rattle.dc_answers.specs.Ends.{Output, Printed, Refused, misread, understood, stops, shows, input_of, short, long, AnalyseEnds, SampleEnds, CheckEnds, no_text, has_text, fails, holds, ReadingEnds, usage, asked}
 use Rattle.dc_answers.specs.Ends as ends
-use Rattle.dc_answers.specs.Claims.{claim_line}
 use Rattle.dc_answers.specs.Headline.{IsAllowed, ClaimMeans, HasInvariants, AnalysisMeans, BeginsWith, AnalyseMeans, SampleMeans, CheckMeans, Means}
 use Rattle.dc_answers.specs.Laws.{OutputsMean, PrintedIsAccepted}
 

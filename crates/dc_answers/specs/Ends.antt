@@ -13,6 +13,7 @@ use Rattle.dc_cert.specs.declared.certificate.Claim.{Claim}
 use Rattle.dc_cert.specs.declared.certificate.Certificate.{Certificate}
 use Rattle.dc_cert.specs.Claims.{claim_of}
 use Rattle.dc_certtext.specs.Limits.{limit, HasText}
+use Rattle.dc_certtext.specs.Text.{claim_line}
 use Rattle.dc_words.specs.Reading.{Reading, for_analyse, for_check, for_sample, takes_words, IsReading}
 use Rattle.dc_check.specs.declared.fault.CheckFault.{CheckFault}
 use Rattle.dc_check.specs.declared.fault.CheckFault.TheVariants as check
@@ -29,7 +30,7 @@ use Rattle.dc_answers.specs.declared.refusal.Wrong.{Wrong}
 use Rattle.dc_answers.specs.declared.refusal.Refusal.{Refusal}
 use Rattle.dc_answers.specs.declared.refusal.Refusal.TheVariants as r
 use Rattle.dc_answers.specs.Statuses as status
-use Rattle.dc_answers.specs.Claims.{claim_status, claim_line, accepted_text}
+use Rattle.dc_answers.specs.Claims.{claim_status, accepted_text}
 use Rattle.dc_answers.specs.Sources.{Tells, Say, is_wrong}
 use Rattle.dc_answers.specs.Outside.{File, file, source_limit}
 
@@ -110,7 +111,8 @@ pub data CheckEnds (x y z : Bytes) (when : Option Bytes) (end : End) : Type 0 wh
       → TextsEnd x y when (CertificateEnds c) end
       → CheckEnds x y z when end
 
--- ---- sample SEED COUNT: four lines on the analysis of a generated pair; the length of the certificate's text is not judged
+-- ---- sample SEED COUNT: four lines on the analysis of a generated pair
+-- the length of the certificate's text is not judged
 abbrev pub new_source : ℕ → ℕ → Bytes
 new_source seed n = source_text (new_costs seed n)
 

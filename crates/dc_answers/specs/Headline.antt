@@ -20,6 +20,7 @@ use Rattle.dc_cert.specs.declared.certificate.Claim.TheVariants.{Threshold, Noth
 use Rattle.dc_cert.specs.declared.certificate.Certificate.{Certificate}
 use Rattle.dc_cert.specs.Claims.{claim_of}
 use Rattle.dc_certtext.specs.Limits.{HasText}
+use Rattle.dc_certtext.specs.Text.{claim_line}
 use Rattle.dc_system.specs.declared.edges.System.{System}
 use Rattle.dc_system.specs.Systems.{system_of}
 use Rattle.dc_system.specs.Folded.{IsFolded}
@@ -38,7 +39,7 @@ use Rattle.dc_session.specs.Session.{Input, candidates_for}
 use Rattle.dc_words.specs.Reading.{Reading, for_analyse, for_check, for_sample}
 use Rattle.dc_answers.specs.Statuses as status
 use Rattle.dc_answers.specs.Sources.{Say}
-use Rattle.dc_answers.specs.Claims.{claim_status, claim_line, accepted_text}
+use Rattle.dc_answers.specs.Claims.{claim_status, accepted_text}
 use Rattle.dc_answers.specs.Ends.{sample_text, input_of, new_source, old_source, sample_condition, sample_settings}
 
 -- ---- runs
@@ -60,7 +61,8 @@ BoundsRuns new old when t = (c d : ℤ) → AreRuns new old when c d → of_ℤ 
 abbrev pub HasNoRuns : Proc → Proc → Option Bytes → Type 0
 HasNoRuns new old when = (c d : ℤ) → ¬ AreRuns new old when c d
 
--- ---- claims, of runs and over the atoms of a pair, for potentials of degree d and products of at most k atoms
+-- ---- claims, of runs and over the atoms of a pair
+-- for potentials of degree d and products of at most k atoms
 abbrev pub ClaimMeans : Proc → Proc → Option Bytes → Pair → ℕ → ℕ → Claim → Type 0
 ClaimMeans new old when p d k (Threshold t) =
     BoundsRuns new old when (value t) × IsLeast p d k (value t)

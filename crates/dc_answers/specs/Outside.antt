@@ -49,7 +49,8 @@ Stops {S} call before after (f ∷ fs) name =
     ((name ≡ f.name) × Denies call before after f)
     ⊎ ((middle : S) × (x : Bytes) × Gives call before middle f x × Stops call middle after fs name)
 
--- ---- what was seen of a store: its files, where they are told, its faults before and after, and its calls
+-- ---- what was seen of a store
+-- its files, where they are told, its faults before and after, and its calls
 pub record Visit : Type 1 where
   pub files : Option Files
   pub faults : ℕ

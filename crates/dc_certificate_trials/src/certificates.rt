@@ -5,8 +5,8 @@ ghost use Rattle.dc_cert.specs.Vectors.{IsVector};
 
 use dc_cert::{Body, Certificate, Claim, Item, Liveness, Sparse, sparse_of};
 use dc_certtext::{
-    ReadFault, WriteFault, read_cert, read_items, write_cert, write_claim, write_fraction,
-    write_items,
+    ReadFault, WriteFault, read_cert, read_items, write_cert, write_claim, write_claim_line,
+    write_fraction, write_items,
 };
 use dc_frac::Frac;
 use sqlite_items::Items;
@@ -416,15 +416,22 @@ fn copies_of_the_parts(rt: HostRuntime) -> Result<(), Fail> {
 #[test]
 fn lines_of_claims(rt: HostRuntime) -> Result<(), Fail> {
     let alloc = rt.alloc();
-    for (claim, text) in [
+    for (claim, first, text) in [
         (
             Claim::Threshold(Frac::new(-1, 2)),
+            "threshold -1/2",
             "threshold -1/2\nwhole -1\n",
         ),
-        (Claim::Threshold(Frac::whole(7)), "threshold 7\nwhole 7\n"),
-        (Claim::Nothing, "none\n"),
-        (Claim::Vacuous, "vacuous\n"),
+        (
+            Claim::Threshold(Frac::whole(7)),
+            "threshold 7",
+            "threshold 7\nwhole 7\n",
+        ),
+        (Claim::Nothing, "none", "none\n"),
+        (Claim::Vacuous, "vacuous", "vacuous\n"),
     ] {
+        let line = write_claim_line(alloc, &claim)?;
+        assert!(rt; line.as_slice() == first.as_bytes(), "{first}");
         let lines = write_claim(alloc, &claim)?;
         assert!(rt; lines.as_slice() == text.as_bytes(), "{text}");
     }

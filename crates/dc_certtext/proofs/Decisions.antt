@@ -166,9 +166,6 @@ coefs_chain low (z ∷ zs) h = (h.0, coefs_chain 0 zs h.1)
 CoefsIn : Bytes → Type 0
 CoefsIn t = Spaced signed_decimal FitsCoef no_order 10 0 t
 
-IsConstant : ℤ → Type 0
-IsConstant z = unsigned_abs z ≤ 2147483648
-
 HasCoefs : Bytes → ℤ → Type 0
 HasCoefs t z = (r : Bytes) × ((32 ∷ signed_decimal z) ++ r ≡ t) × CoefsIn r
 

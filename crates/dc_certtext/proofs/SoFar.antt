@@ -16,8 +16,6 @@ use Rattle.dc_certtext.specs.Text.{claim_lines, vector_line, shown_line, numbere
 use Rattle.dc_certtext.specs.Stages.{head, edge_of}
 
 -- ---- lists with something behind them
-with_last : {A : Type 0} → List A → A → List A
-with_last xs x = xs ++ x ∷ []
 
 abbrev pub sized_lines : Claim → ℕ → ℕ → ℕ → List Bytes
 sized_lines c v d k = (claim_lines c ++ numbered (codes "diffcost ") v ∷ []) ++ sizes_line d k ∷ []

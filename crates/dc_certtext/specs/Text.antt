@@ -77,10 +77,17 @@ side_lines version s =
     ++ (groups edge_lines 0 s.edges ++ (shown_line (codes "exit") s.exit_line ∷ [])))
 
 -- ---- the whole
+-- the first line of a claim's
+abbrev pub claim_line : Claim → Bytes
+claim_line (C.Threshold t) = threshold_line t
+claim_line C.Nothing = codes "none"
+claim_line C.Vacuous = codes "vacuous"
+
+-- a threshold has a second one
 abbrev pub claim_lines : Claim → List Bytes
-claim_lines (C.Threshold t) = threshold_line t ∷ whole_line t ∷ []
-claim_lines C.Nothing = codes "none" ∷ []
-claim_lines C.Vacuous = codes "vacuous" ∷ []
+claim_lines (C.Threshold t) = claim_line (C.Threshold t) ∷ whole_line t ∷ []
+claim_lines C.Nothing = claim_line C.Nothing ∷ []
+claim_lines C.Vacuous = claim_line C.Vacuous ∷ []
 
 -- version 1 has no line with the number of cases
 abbrev pub cases_lines : ℕ → ℕ → List Bytes

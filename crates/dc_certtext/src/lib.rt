@@ -13,4 +13,4 @@ mod write;
 
 pub use from_text::{ReadFault, read_cert};
 pub use items::{read_items, write_items};
-pub use write::{WriteFault, write_cert, write_claim, write_fraction};
+pub use write::{WriteFault, write_cert, write_claim, write_claim_line, write_fraction};

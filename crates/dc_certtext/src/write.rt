@@ -5,7 +5,7 @@ ghost use Rattle.dc_cert.specs.Ranges.{IsCertificate};
 ghost use Rattle.dc_certtext.specs.Limits.{limit};
 ghost use Rattle.dc_certtext.specs.WriteFaults.{IsWriteFault};
 ghost use Rattle.dc_certtext.specs.Words.{frac_text};
-ghost use Rattle.dc_certtext.specs.Text.{atom_line, body_lines, cases_lines, claim_lines, edge_line, edge_lines, entry_line, entry_lines, groups, head_lines, keep_lines, location_lines, numbered, shown_line, shown_text, side_lines, sizes_line, text_of, threshold_line, vector_line, whole_line};
+ghost use Rattle.dc_certtext.specs.Text.{atom_line, body_lines, cases_lines, claim_line, claim_lines, edge_line, edge_lines, entry_line, entry_lines, groups, head_lines, keep_lines, location_lines, numbered, shown_line, shown_text, side_lines, sizes_line, text_of, vector_line, whole_line};
 ghost use Rattle.dc_lines.specs.Bytes.{ended};
 
 use crate::put::{put_atom, put_fraction, put_vector};
@@ -203,11 +203,11 @@ fn put_claim(alloc: Global, out: &mut Vec<u8>, what: &Claim) -> Result<(), Alloc
 {
     match what {
         Claim::Threshold(t) => {
-            threshold(alloc, out, t)?;
+            first_line(alloc, out, what)?;
             whole(alloc, out, t)
         }
-        Claim::Nothing => plain(out, b"none"),
-        Claim::Vacuous => plain(out, b"vacuous"),
+        Claim::Nothing => first_line(alloc, out, what),
+        Claim::Vacuous => first_line(alloc, out, what),
     }
 }
 
@@ -218,11 +218,30 @@ fn claim(alloc: Global, out: &mut Vec<u8>, body: &Body) -> Result<(), AllocError
     put_claim(alloc, out, &what)
 }
 
-fn threshold(alloc: Global, out: &mut Vec<u8>, t: &Frac) -> Result<(), AllocError>
-    ensures { OnOk result (out.new.items ≡ out.old.items ++ ended (threshold_line t.now ∷ [])) }
+// The first of them, without its line feed.
+fn put_claim_line(alloc: Global, out: &mut Vec<u8>, what: &Claim) -> Result<(), AllocError>
+    ensures { OnOk result (out.new.items ≡ out.old.items ++ claim_line what.now) }
 {
-    out.extend_from_slice(b"threshold ")?;
-    put_fraction(alloc, out, t)?;
+    match what {
+        Claim::Threshold(t) => {
+            out.extend_from_slice(b"threshold ")?;
+            put_fraction(alloc, out, t)
+        }
+        Claim::Nothing => {
+            out.extend_from_slice(b"none")?;
+            Ok(())
+        }
+        Claim::Vacuous => {
+            out.extend_from_slice(b"vacuous")?;
+            Ok(())
+        }
+    }
+}
+
+fn first_line(alloc: Global, out: &mut Vec<u8>, what: &Claim) -> Result<(), AllocError>
+    ensures { OnOk result (out.new.items ≡ out.old.items ++ ended (claim_line what.now ∷ [])) }
+{
+    put_claim_line(alloc, out, what)?;
     out.push(b'\n')?;
     Ok(())
 }
@@ -391,6 +410,15 @@ pub fn write_claim(alloc: Global, what: &Claim) -> Result<Vec<u8>, AllocError>
 {
     let mut out = Vec::new(alloc);
     put_claim(alloc, &mut out, what)?;
+    Ok(out)
+}
+
+/// The first line of a claim's, without its line feed: `threshold F`, `none` or `vacuous`.
+pub fn write_claim_line(alloc: Global, what: &Claim) -> Result<Vec<u8>, AllocError>
+    ensures { IfOk result (λ v. v.items ≡ claim_line what.now) }
+{
+    let mut out = Vec::new(alloc);
+    put_claim_line(alloc, &mut out, what)?;
     Ok(out)
 }
 

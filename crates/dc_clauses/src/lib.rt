@@ -12,4 +12,5 @@ mod shape;
 mod step;
 
 pub use families::family_failure;
+pub use lines::number_at;
 pub use step::{Step, failure, passes};

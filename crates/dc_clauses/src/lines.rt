@@ -77,12 +77,12 @@ fn is_within(sum: &Frac, number: &i128) -> bool
     }
 }
 
-/// The coefficient at a place, 0 where there is none.
-fn number_at(coefs: &[i128], place: usize) -> i128
-    ensures { result ≡ whole_at coefs.now place }
+/// The number at an index, 0 where there is none.
+pub fn number_at(numbers: &[i128], index: usize) -> i128
+    ensures { result ≡ whole_at numbers.now index }
 {
-    match coefs.get(place) {
-        Some(coef) => *coef,
+    match numbers.get(index) {
+        Some(number) => *number,
         None => 0,
     }
 }

@@ -16,7 +16,7 @@ use Rattle.dc_cert.specs.declared.certificate.Claim.{Claim}
 use Rattle.dc_cert.specs.declared.certificate.Certificate.{Certificate}
 use Rattle.dc_cert.specs.Ranges.{IsCertificate}
 use Rattle.dc_cert.specs.Claims.{claim_of}
-use Rattle.dc_certtext.specs.Text.{text_of}
+use Rattle.dc_certtext.specs.Text.{text_of, claim_line}
 use Rattle.dc_certtext.specs.Limits.{limit, HasText}
 use Rattle.dc_certtext.specs.declared.write.WriteFault.{WriteFault}
 use Rattle.dc_certtext.specs.declared.write.WriteFault.TheVariants as write
@@ -34,7 +34,7 @@ use Rattle.dc_check.specs.declared.fault.CheckFault.{CheckFault}
 use Rattle.dc_check.specs.Answers as checks
 use Rattle.dc_answers.specs.declared.refusal.Refusal.{Refusal}
 use Rattle.dc_answers.specs.declared.refusal.Refusal.TheVariants as r
-use Rattle.dc_answers.specs.Claims.{claim_status, claim_line, accepted_text}
+use Rattle.dc_answers.specs.Claims.{claim_status, accepted_text}
 use Rattle.dc_answers.specs.Sources.{Say}
 use Rattle.dc_answers.specs.Outside.{file, source_limit, Visit}
 use Rattle.dc_answers.specs.Ends.{output, End, Printed, Refused, understood, input_of, of_analysis, IsWritten, short, long, AnalyseEnds, CertificateEnds, holds, of_check, CheckEnds, has_text, new_source, old_source, sample_condition, sample_settings, sample_text, IsSummed, SampleEnds, ReadingEnds, files_of}

@@ -1,9 +1,10 @@
-//! The claim of a certificate: its status and its line.
+//! The claim of a certificate: its status, and its line behind a text.
 ghost use Rattle.std.specs.Prelude.{◌≡◌, ◌++◌, [], ◌∷◌, IfOk, codes};
-ghost use Rattle.dc_answers.specs.Claims.{claim_status, claim_line, accepted_text};
+ghost use Rattle.dc_certtext.specs.Text.{claim_line};
+ghost use Rattle.dc_answers.specs.Claims.{claim_status, accepted_text};
 
 use dc_cert::Claim;
-use dc_certtext::write_fraction;
+use dc_certtext::write_claim_line;
 use std::alloc::{AllocError, Global};
 
 /// The status of an analysis that shows this.
@@ -17,36 +18,11 @@ pub fn status(claim: &Claim) -> u8
     }
 }
 
-/// The first line of a certificate that shows this, without its line feed.
-pub fn line(alloc: Global, claim: &Claim) -> Result<Vec<u8>, AllocError>
-    ensures { IfOk result (λ v. v.items ≡ claim_line claim.now) }
-{
-    match claim {
-        Claim::Threshold(t) => {
-            let fraction = write_fraction(alloc, t)?;
-            let mut line = Vec::new(alloc);
-            line.extend_from_slice(b"threshold ")?;
-            line.extend_from_slice(fraction.as_slice())?;
-            Ok(line)
-        }
-        Claim::Nothing => word(alloc, b"none"),
-        Claim::Vacuous => word(alloc, b"vacuous"),
-    }
-}
-
-fn word(alloc: Global, text: &[u8]) -> Result<Vec<u8>, AllocError>
-    ensures { IfOk result (λ v. v.items ≡ text.now) }
-{
-    let mut line = Vec::new(alloc);
-    line.extend_from_slice(text)?;
-    Ok(line)
-}
-
 /// A line between a text before it and its line feed.
 pub fn line_behind(alloc: Global, before: &[u8], claim: &Claim) -> Result<Vec<u8>, AllocError>
     ensures { IfOk result (λ v. v.items ≡ before.now ++ (claim_line claim.now ++ codes "\n")) }
 {
-    let line = line(alloc, claim)?;
+    let line = write_claim_line(alloc, claim)?;
     let mut whole = Vec::new(alloc);
     whole.extend_from_slice(before)?;
     whole.extend_from_slice(line.as_slice())?;

@@ -17,10 +17,13 @@ use std::alloc::Global;
 /// Runs the command that the words after the program's name give, and answers the status of the
 /// program.
 ///
-/// - `analyse NEW OLD [--when TEXT] [--degree 0..3] [--products 1..3] [--rows intervals|pairs] [--pivots 1..1000000]` prints the text of a
-///   certificate, whose first line is `threshold T`, `none` or `vacuous`; the status is 0, 1 or 2.
-/// - `check NEW OLD CERT [--when TEXT]` prints `accepted` and the certificate's first line; the status is 0.
-/// - `sample SEED COUNT` analyses a generated pair, and prints four lines, the last of which is the claim; the status is as for `analyse`.
+/// - `analyse NEW OLD [--when TEXT] [--degree 0..3] [--products 1..3] [--rows intervals|pairs]
+///   [--pivots 1..1000000]` prints the text of a certificate, whose first line is `threshold T`,
+///   `none` or `vacuous`; the status is 0, 1 or 2.
+/// - `check NEW OLD CERT [--when TEXT]` prints `accepted` and the certificate's first line; the
+///   status is 0.
+/// - `sample SEED COUNT` analyses a generated pair, and prints four lines, the last of which is the
+///   claim; the status is as for `analyse`.
 ///
 /// The whole output is built before the first write. Where there is none, its cause has its line on
 /// `err`, the first of these:
@@ -28,9 +31,10 @@ use std::alloc::Global;
 /// - 3, the usage: the words are no command;
 /// - 8, `read fault: NAME`: the store handed out no text for NEW, else for OLD, else for CERT;
 /// - 12, `bad certificate: line L`: the text of CERT is no certificate's;
-/// - 4, `source fault: WHICH L:C KIND`: the first of the new version's text, the old one's, the parameters, and the condition that is wrong;
-/// - 5, `too large: ..`, 6, `past 128 bits: ..`, 7, `pivots spent: ..` and 11, `rejected: ..`: the first step of the analysis or of the check
-///   that is refused;
+/// - 4, `source fault: WHICH L:C KIND`: the first of the new version's text, the old one's, the
+///   parameters, and the condition that is wrong;
+/// - 5, `too large: ..`, 6, `past 128 bits: ..`, 7, `pivots spent: ..` and 11, `rejected: ..`: the
+///   first step of the analysis or of the check that is refused;
 /// - 9, `write fault`: `out` has gained a proper prefix of the output alone;
 /// - 10, `no memory`: `out` is as before.
 ///

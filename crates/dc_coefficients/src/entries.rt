@@ -39,7 +39,8 @@ pub fn push_entries(
     requires listed { AllByRecursion (λ (t : Term). Among t.mono monos.now) form.now.terms }
     requires room { row + length monos.now < 2 ^ 63 }
     ensures { OnOk result
-        (column.new.items ≡ column.old.items ++ entries_from row (map (coef form.now.terms) monos.now)) }
+        (column.new.items
+        ≡ column.old.items ++ entries_from row (map (coef form.now.terms) monos.now)) }
 {
     let terms = form.terms();
     let mut next = 0;

@@ -43,7 +43,9 @@ pub record Parts : Type 0 where
 
 -- "proc" NAME "(" [ names ] ")" "{" [ "var" names ";" ] { stmt } "}"
 abbrev pub parts_of : Tree Token → Parts
-parts_of (pair proc (pair (leaf t) (pair opens (pair ps (pair closes (pair begins (pair ls (pair ss ends)))))))) =
+parts_of
+    (pair proc (pair (leaf t) (pair opens (pair ps (pair closes (pair begins
+    (pair ls (pair ss ends)))))))) =
     record { name = t; params = params_in ps; locals = locals_in ls; body = ss }
 parts_of _ = record {
   name = record {

@@ -52,7 +52,8 @@ abbrev mutual
   stmt_of p (right (right (right (left (pair (leaf x) (pair equals (pair a semi))))))) =
       assigned_of p (p x) a
   -- "if" "(" choice ")" block [ "else" block ]
-  stmt_of p (right (right (right (right (left (pair if (pair opens (pair c (pair closes (pair a b)))))))))) =
+  stmt_of p
+      (right (right (right (right (left (pair if (pair opens (pair c (pair closes (pair a b)))))))))) =
       branch_by (choice_of p c) (block_of p a) (else_of p b)
   -- "while" "(" choice ")" block
   stmt_of p (right (right (right (right (right (pair while (pair opens (pair c (pair closes a))))))))) =
@@ -92,9 +93,11 @@ abbrev mutual
 
   -- of the statements inside a statement
   pub inner_starts : Tree Token → List ℕ
-  inner_starts (right (right (right (right (left (pair if (pair opens (pair c (pair closes (pair a b)))))))))) =
+  inner_starts
+      (right (right (right (right (left (pair if (pair opens (pair c (pair closes (pair a b)))))))))) =
       block_starts a ++ else_starts b
-  inner_starts (right (right (right (right (right (pair while (pair opens (pair c (pair closes a))))))))) =
+  inner_starts
+      (right (right (right (right (right (pair while (pair opens (pair c (pair closes a))))))))) =
       block_starts a
   inner_starts _ = []
 

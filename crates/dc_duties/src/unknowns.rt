@@ -50,7 +50,8 @@ fn push_at(
     monomials: usize,
 ) -> Result<(), AllocError>
     ensures { OnOk result
-        (list.new.items ≡ list.old.items ++ map (Coefficient side location) (range_with_len 0 monomials)) }
+        (list.new.items
+        ≡ list.old.items ++ map (Coefficient side location) (range_with_len 0 monomials)) }
 {
     for number in 0..monomials {
         list.push(Unknown::Coefficient(side, location, number))?;

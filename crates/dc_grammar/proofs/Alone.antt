@@ -43,11 +43,6 @@ fails_whole each x ts us d a e = fail_ok (one_answer d (alone each e))
 pub list_cons : {A T : Type 0} {t : T} {w : List T} → t ∷ w ≡ [] → A
 list_cons e = absurd cc
 
-pub more_whole : {K N T : Type 0} {R : Reader K N T} → LooksAhead R → (x : N) (ts us : List T) (b : Tree T) → 0 < length us → Parses R (ref x) ts (ok b us)
-    → (a : Tree T) → Derives R.grammar (ref x) ts a → ⊥
-more_whole each x ts [] b l d a e = absurd (omega arith)
-more_whole each x ts (t ∷ us) b l d a e = list_cons (ok_same (one_answer d (alone each e))).1
-
 -- ---- tokens are used up
 
 pub no_longer : {K N T : Type 0} {R : Reader K N T} → LooksAhead R → {r : Rule K N} {ts : List T} {o : Out T} → Parses R r ts o → length (rest o) ≤ length ts

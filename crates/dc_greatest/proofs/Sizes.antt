@@ -1,7 +1,6 @@
 -- How large the constant of a form is after an edge.
-use Rattle.std.specs.Prelude.{ℕ, ◌+◌, ◌*◌, ◌<◌, ◌≤◌, ◌^◌, List, length, ℤ, ◌+ℤ◌, unsigned_abs}
+use Rattle.std.specs.Prelude.{ℕ, ◌+◌, ◌*◌, ◌<◌, ◌≤◌, ◌^◌, List, length, ℤ, unsigned_abs}
 use Rattle.std.proofs.Common.{arith}
-use Rattle.std.proofs.lemmas.Int.{ints}
 use Rattle.std.proofs.Math.Nat.{mul-le-mul}
 use Rattle.dc_poly.specs.Terms.{Exponents}
 use Rattle.dc_poly.specs.Sums.{zeros}
@@ -13,9 +12,6 @@ use Rattle.dc_system.specs.Shapes.{IsEdge}
 use Rattle.dc_moves.proofs.Forms.{coef_at-small}
 
 -- ---- a coefficient of a sum
-
-small_sum : (x y : ℤ) (a b : ℕ) → unsigned_abs x ≤ a → unsigned_abs y ≤ b → unsigned_abs (x +ℤ y) ≤ a + b
-small_sum x y a b h k = omega (arith, ints)
 
 module _ (n : ℕ) (e : Edge) (row : List ℤ) (few : n ≤ 10) (h : IsEdge n e) (f : AllFit row) (l : length row ≤ n) where
   abbrev each : Exponents → ℤ

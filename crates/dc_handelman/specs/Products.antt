@@ -79,13 +79,15 @@ StayAboveZero = (n : ℕ) (hyps : List Atom) (c : Choice) (xs : List ℤ) → Al
 -- each product is at least 0 where all the atoms hold
 abbrev pub HoldTogether : Type 0
 HoldTogether =
-    (n k : ℕ) (hyps : List Atom) (xs : List ℤ) → AllByRecursion (IsAtom n) hyps → all_hold hyps xs ≡ true
+    (n k : ℕ) (hyps : List Atom) (xs : List ℤ) → AllByRecursion (IsAtom n) hyps
+    → all_hold hyps xs ≡ true
     → AllByRecursion (λ (p : Polynomial). pos 0 ≤ℤ value p.terms xs) (products_of n hyps k)
 
 -- ---- the order of the factors
 -- a product does not depend on the order of its factors
 abbrev pub OrderIsFree : Type 0
-OrderIsFree = (n : ℕ) (hyps : List Atom) (c d : Choice) → AllByRecursion (IsAtom n) hyps → IsPermutation c d
+OrderIsFree = (n : ℕ) (hyps : List Atom) (c d : Choice) → AllByRecursion (IsAtom n) hyps
+    → IsPermutation c d
     → product_at n hyps c ≡ product_at n hyps d
 
 -- at most k numbers below n, in any order, are a choice of the list in another order
@@ -95,5 +97,6 @@ EachIsSorted = (n k : ℕ) (c : Choice) → length c ≤ k → AllByRecursion (�
 
 -- so the product of at most k of the atoms, in any order, stands among the products
 abbrev pub EachProductStands : Type 0
-EachProductStands = (n k : ℕ) (hyps : List Atom) (c : Choice) → AllByRecursion (IsAtom n) hyps → length c ≤ k
+EachProductStands = (n k : ℕ) (hyps : List Atom) (c : Choice) → AllByRecursion (IsAtom n) hyps
+    → length c ≤ k
     → AllByRecursion (λ i. i < length hyps) c → Among (product_at n hyps c) (products_of n hyps k)

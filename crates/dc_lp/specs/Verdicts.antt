@@ -26,7 +26,8 @@ judged i None = Past128 i
 judged i (Some true) = Holds
 judged i (Some false) = Fails i
 
--- ---- the folds: the left side of an equation, a column's price, and the cost and the right side of a whole vector
+-- ---- the folds
+-- the left side of an equation, a column's price, and the cost and the right side of a whole vector
 abbrev pub left_fold : Problem → (ℕ → ℚ) → ℕ → Option ℚ
 left_fold p x i = folded (columns p) (coefficient p i) x
 

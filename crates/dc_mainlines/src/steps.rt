@@ -15,7 +15,7 @@ ghost use Rattle.dc_mainlines.specs.Sums.{priced, short_columns, signed, solved}
 
 use crate::sums::short_column;
 use dc_cert::{Item, Sparse};
-use dc_clauses::{Step, failure};
+use dc_clauses::{Step, failure, number_at};
 use dc_frac::Frac;
 use dc_lp::{Problem, add_term, price};
 use std::cmp::Ordering;
@@ -30,16 +30,6 @@ pub fn sign_failure(items: &[Item]) -> Option<Step>
         }
     }
     None
-}
-
-/// The number at an index, 0 where there is none.
-fn number_at(numbers: &[i128], index: usize) -> i128
-    ensures { result ≡ whole_at numbers.now index }
-{
-    match numbers.get(index) {
-        Some(number) => *number,
-        None => 0,
-    }
 }
 
 /// Whether a row's sum is the number on the right; none where it doesn't fit.

@@ -50,13 +50,16 @@ pub fn problem_of(
     ensures problem { IfOk result
         (λ p. linear_of p
         ≡ rational
-        (main_problem (pair_of new.now old.now cases.now) degree products (flags_of new.now old.now live.now))) }
+        (main_problem (pair_of new.now old.now cases.now) degree products
+        (flags_of new.now old.now live.now))) }
     ensures well_formed { IfOk result (λ p. IsWellFormed p) }
     ensures within { IfOk result
-        (λ p. size_fault (pair_of new.now old.now cases.now) degree products (flags_of new.now old.now live.now)
+        (λ p. size_fault (pair_of new.now old.now cases.now) degree products
+        (flags_of new.now old.now live.now)
         ≡ None) }
     ensures fault { IfErr result
-        (IsFault (pair_of new.now old.now cases.now) degree products (flags_of new.now old.now live.now)) }
+        (IsFault (pair_of new.now old.now cases.now) degree products
+        (flags_of new.now old.now live.now)) }
 {
     let programs = Programs { new, old, cases };
     let duties = duties_in_order(alloc, new, old, live)?;
@@ -111,7 +114,8 @@ fn too_many(alloc: Global, task: &Task, duties: &[Duty]) -> MatchFault
     ensures { (result ≡ NoMemory)
         ⊎ (result
         ≡ TooLarge count.Equations
-        (length (equations_in (lent task.now.programs.now) task.now.degree task.now.products duties.now))) }
+        (length
+        (equations_in (lent task.now.programs.now) task.now.degree task.now.products duties.now))) }
 {
     match equation_count(alloc, task, duties) {
         Ok(count) => MatchFault::TooLarge {

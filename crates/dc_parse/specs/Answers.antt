@@ -18,7 +18,7 @@ SourceOutcome text = IsOutcome source (judge_source text) text
 abbrev pub ConditionOutcome : List (List ℕ) → List ℕ → Outcome (List (List Atom)) → Type 0
 ConditionOutcome names text = IsOutcome cond (judge_condition names text) text
 
--- a refusal with its line and column: want of memory stands at 0:0, each other at the offset of its byte
+-- a refusal with its line and column: want of memory stands at 0:0, each other at its byte's offset
 abbrev pub IsRefusal : {A : Type 0} → (Outcome A → Type 0) → List ℕ → ℕ → ℕ → Kind → Type 0
 IsRefusal Of text line col k.NoMemory = (line ≡ 0) × (col ≡ 0)
 IsRefusal Of text line col kind =

@@ -5,7 +5,7 @@ use Rattle.dc_math.specs.Field.{Field, sum_to, minus, nonneg, is_negative}
 use Rattle.dc_pivots.proofs.Rows.{Rows, pivot_at}
 use Rattle.dc_lp.specs.Linear.{Linear}
 use Rattle.dc_lp.specs.Tables.{Table, at, right, entering, ratio_row, drive_cell, signed, start_entry, start_value, minus_sum}
-use Rattle.dc_pivots.specs.Runs.{Phase, One, Drive, Two, Infeasible, Unbounded, Due, Pivot, End, State, due, due_at, due_one, due_two, due_drive, end_one, enter_one, leave_one, enter_two, leave_two, drive_out, run, Basic}
+use Rattle.dc_pivots.specs.Runs.{Phase, One, Drive, Two, Infeasible, Unbounded, Pivot, End, State, due, due_at, due_one, due_two, due_drive, end_one, enter_one, leave_one, enter_two, leave_two, drive_out, run, Basic}
 use Rattle.dc_pivots.proofs.Segment.{Has}
 use Rattle.dc_pivots.specs.Vectors.{basic_row, direction_at}
 use Rattle.dc_pivots.specs.FieldLaws.{AreOpposite, PhaseOneLeaves, StayOpposite}
@@ -19,10 +19,6 @@ use Rattle.dc_pivots.proofs.Choices.{Move, stays_one, ends_one, drives, begins_t
 use Rattle.dc_pivots.proofs.Kept.{IsShadow, Kept, first-real}
 use Rattle.dc_pivots.proofs.PhaseLaws.{basic-costs}
 use Rattle.dc_pivots.proofs.Whole.{G, C, G-next, G-first, IsReached, run-is, kept, basic-has}
-
-row_of : Due → ℕ
-row_of (Pivot q r j) = r
-row_of (End e) = 0
 
 module _ (Q : Type 0) (F : Field Q) (p : Linear Q) where
   abbrev m : ℕ

@@ -50,10 +50,6 @@ power_positive : (w e : ℕ) → 0 < w → 0 < w ^ e
 power_positive w zero h = rw pow-zero (omega arith)
 power_positive w (suc e) h = rw pow-succ' (mul_positive w (w ^ e) h (power_positive w e h))
 
--- the weight of the value at a place
-weight_of : Polynomial → ℕ
-weight_of v = weight v.terms
-
 -- a value that is 0 with a positive exponent makes the product 0
 pub zero_at : (k : ℕ) (m : Exponents) (vs : List Polynomial) (v : Polynomial) → k < length m → length vs ≡ length m → v ≡ get_or vs k v → 0 < get_or m k 0 → length v.terms ≡ 0 → product_weight m vs ≡ 0
 zero_at k [] vs v h l e g z = absurd (omega arith)

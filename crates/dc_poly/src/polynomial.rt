@@ -80,7 +80,8 @@ impl Poly {
         requires { CanAdd self.now other.now }
         ensures sum { IfOk result (λ p. p ≡ sum_of self.now other.now) }
         ensures value { IfOk result
-            (λ p. (xs : List ℤ) → value p.terms xs ≡ value self.now.terms xs +ℤ value other.now.terms xs) }
+            (λ p. (xs : List ℤ) → value p.terms xs
+            ≡ value self.now.terms xs +ℤ value other.now.terms xs) }
         ensures kind { IfOk result (λ p. IsPolynomial p) }
     {
         Ok(Poly {
@@ -116,7 +117,8 @@ impl Poly {
         requires { CanMul self.now other.now }
         ensures product { IfOk result (λ p. p ≡ product_of self.now other.now) }
         ensures value { IfOk result
-            (λ p. (xs : List ℤ) → value p.terms xs ≡ value self.now.terms xs *ℤ value other.now.terms xs) }
+            (λ p. (xs : List ℤ) → value p.terms xs
+            ≡ value self.now.terms xs *ℤ value other.now.terms xs) }
         ensures kind { IfOk result (λ p. IsPolynomial p) }
     {
         Ok(Poly {

@@ -9,11 +9,10 @@ use Rattle.dc_syntax.specs.declared.tree.Expr.{Expr}
 use Rattle.dc_syntax.specs.declared.tree.Cond.{Cond}
 use Rattle.dc_syntax.specs.declared.tree.Proc.{Proc}
 use Rattle.dc_syntax.specs.declared.tree.Stmt.{Stmt, Stmt-F, fold-Stmt}
-use Rattle.dc_syntax.specs.declared.tree.Stmt.TheOpen.{Skip, Assign, AnyOf, Between, Tick, Assume, If, IfAny, While, WhileAny}
 use Rattle.dc_affine.specs.Forms.{is_below}
 use Rattle.dc_affine.specs.Atoms.{cond_is_below}
 use Rattle.dc_affine.specs.Whole.{statement_below, inner, each}
-use Rattle.dc_program.specs.Limits.{literals_fit, cond_literals_fit}
+use Rattle.dc_program.specs.Limits.{literals_fit, cond_literals_fit, statement_literals_fit}
 
 -- a name: a letter or `_`, then letters, digits and `_`, and no keyword
 pub record IsName (w : List ℕ) : Type 0 where
@@ -26,19 +25,6 @@ fits n e = is_below n e && literals_fit e
 
 abbrev pub cond_fits : ℕ → Cond → Bool
 cond_fits n c = cond_is_below n c && cond_literals_fit c
-
--- the literals of a statement's own expressions and condition, without the statements inside it
-abbrev pub statement_literals_fit : {A : Type 0} → Stmt-F A → Bool
-statement_literals_fit Skip = true
-statement_literals_fit (Assign k e) = literals_fit e
-statement_literals_fit (AnyOf k) = true
-statement_literals_fit (Between k a b) = literals_fit a && literals_fit b
-statement_literals_fit (Tick e) = literals_fit e
-statement_literals_fit (Assume c) = cond_literals_fit c
-statement_literals_fit (If c A B) = cond_literals_fit c
-statement_literals_fit (IfAny A B) = true
-statement_literals_fit (While c A) = cond_literals_fit c
-statement_literals_fit (WhileAny A) = true
 
 -- with the statements inside it
 abbrev pub stmt_fits_step : ℕ → Stmt-F Bool → Bool

@@ -32,6 +32,19 @@ cond_literals_step (G.Or c d) = c && d
 abbrev pub cond_literals_fit : Cond → Bool
 cond_literals_fit c = fold-Cond Bool cond_literals_step c
 
+-- the literals of a statement's own expressions and condition, without the statements inside it
+abbrev pub statement_literals_fit : {A : Type 0} → Stmt-F A → Bool
+statement_literals_fit Skip = true
+statement_literals_fit (Assign k e) = literals_fit e
+statement_literals_fit (AnyOf k) = true
+statement_literals_fit (Between k a b) = literals_fit a && literals_fit b
+statement_literals_fit (Tick e) = literals_fit e
+statement_literals_fit (Assume c) = cond_literals_fit c
+statement_literals_fit (If c A B) = cond_literals_fit c
+statement_literals_fit (IfAny A B) = true
+statement_literals_fit (While c A) = cond_literals_fit c
+statement_literals_fit (WhileAny A) = true
+
 -- ---- operators: the number of `+`, `-`, `*`, `!`, `&&` and `||`
 
 abbrev pub operators_step : Expr-F ℕ → ℕ

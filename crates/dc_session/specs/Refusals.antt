@@ -79,8 +79,10 @@ main_excess i a =
     option_and_then of_main
     (mains.size_fault (pair_of i a) i.settings.degree i.settings.products (flags_of i a))
 
--- ---- the steps, in order: the counts, the problems before the main one, the main problem's counts, the
--- main problem, and the checker's clauses over the certificate that is made
+-- ---- the steps, in order
+-- the counts, the problems before the main one, the main problem's counts, the main problem, and the
+-- checker's clauses over the certificate that is made
+
 -- the analysis is as far as the counts of the main problem
 pub record IsBegun (i : Input) (a : Analysis) : Type 0 where
   pub analysis : IsAnalysis i a

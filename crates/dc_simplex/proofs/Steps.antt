@@ -1,5 +1,5 @@
 -- One more pivot of a run on a tableau.
-use Rattle.std.proofs.Common.{◌≡◌, ℕ, ◌+◌, ◌≤◌, ◌≢◌, true, false, length, Result, Ok, Err, refl, sym, ◌∙◌, ap, arith, inl, inr}
+use Rattle.std.proofs.Common.{◌≡◌, ℕ, ◌+◌, ◌≤◌, ◌≢◌, true, length, Result, Ok, Err, refl, sym, ◌∙◌, ap, arith, inl, inr}
 use Rattle.std.proofs.lemmas.Bool.{cases_Bool}
 use Rattle.std.proofs.lemmas.List.FromFn.{length-map-range_with_len}
 use Rattle.dc_math.specs.Rational.{ℚ}
@@ -37,9 +37,6 @@ start-real p = refl
 abbrev said : Due → Result Due PastQuotient
 said d = Ok d
 
-abbrev refused : PastQuotient → Result Due PastQuotient
-refused x = Err x
-
 abbrev refused_so : Result Due PastQuotient
 refused_so = Err (record {})
 
@@ -48,13 +45,6 @@ told-ok t d e h =
     elim (cases_Bool (test_fits t d)) [
       | inl b ↦ (let f : said e ≡ said d = rw b at h in ((cc), b))
       | inr b ↦ (let f : said e ≡ refused_so = rw b at h in absurd (cc))
-    ]
-
-told-err : (t : Table ℚ) (d : Due) (x : PastQuotient) → refused x ≡ told t d → test_fits t d ≡ false
-told-err t d x h =
-    elim (cases_Bool (test_fits t d)) [
-      | inl b ↦ (let f : refused x ≡ said d = rw b at h in absurd (cc))
-      | inr b ↦ b
     ]
 
 -- the tableau is where the run is after these pivots

@@ -67,11 +67,3 @@ plain-costs_differ p q a b h k v c d x y =
     let e : c ≡ pos a = (Run-plain a h x.2).0 in
     let f : d ≡ pos b = (Run-plain b k y.2).0 in
     cc
-
--- the cost of a list that begins with a plain statement
-pub plain_cost-Skip : (R : List Stmt) → plain_cost (v.Skip ∷ R) ≡ both (Some 0) (plain_cost R)
-plain_cost-Skip R = ap (λ l. both (plain_in l) (plain_cost R)) v.outs-Skip
-
-pub plain_cost-Tick : (n : ℕ) (R : List Stmt) → plain_cost (v.Tick (w.Num n) ∷ R) ≡ both (Some n) (plain_cost R)
-plain_cost-Tick n R =
-    ap (λ l. both (plain_in l) (plain_cost R)) (v.outs-Tick (w.Num n)) ∙ ap (λ l. both (number_in l) (plain_cost R)) (w.outs-Num n)
