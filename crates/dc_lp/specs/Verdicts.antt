@@ -1,6 +1,6 @@
 -- The tests of the four checkers, by number. A test is true or false, or None where its fold
 -- doesn't fit.
-use Rattle.std.specs.Prelude.{◌≡◌, ℕ, ◌+◌, ◌-◌, ◌<◌, ℤ, pos, Bool, true, false, nat_lt, if◌then◌else◌, length, Option, Some, None}
+use Rattle.std.specs.Prelude.{◌≡◌, ℕ, ◌+◌, ◌-◌, ◌<◌, ℤ, pos, Bool, true, false, nat_lt, if◌then◌else◌, Option, Some, None}
 use Rattle.std.specs.Option.{option_map, option_and_then}
 use Rattle.dc_math.specs.Rational.{ℚ, of_ℤ, le_ℚ}
 use Rattle.dc_math.specs.Tests.{eq_ℚ, is_negative, is_positive}

@@ -7,7 +7,7 @@ use Rattle.dc_syntax.specs.declared.tree.Stmt.{Stmt, Stmt-F, out-Stmt}
 use Rattle.dc_syntax.specs.Value.{State}
 use Rattle.dc_trace.specs.declared.walk.Halt.{Halt}
 use Rattle.dc_trace.specs.Replay.{Config, is_small, turn_of}
-use Rattle.dc_trace.specs.Spots.{todo_at, IsTurn}
+use Rattle.dc_trace.specs.Tails.{todo_at, IsTurn}
 
 pub todo-more : (xs : List (Bor (List Stmt))) (a : Bor (List Stmt)) → todo_at (xs ++ a ∷ []) ≡ a.now ++ todo_at xs
 todo-more [] a = sym (append-nil a.now)

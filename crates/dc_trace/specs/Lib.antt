@@ -3,4 +3,4 @@ pub mod Replay
 pub mod Ends
 pub mod Laws
 pub mod Tests
-pub mod Spots
+pub mod Tails

@@ -3,7 +3,7 @@ ghost use Rattle.std.specs.Prelude.{◌≡◌, ◌<◌, ◌^◌, ◌-◌, ◌++�
 ghost use Rattle.dc_syntax.specs.Costs.{Costs};
 ghost use Rattle.dc_trace.specs.Replay.{is_small, start};
 ghost use Rattle.dc_trace.specs.Ends.{IsTraceFault, Pays};
-ghost use Rattle.dc_trace.specs.Spots.{fault_of, seen};
+ghost use Rattle.dc_trace.specs.Tails.{fault_of, seen};
 
 use crate::walk::{Halt, Walk};
 use dc_syntax::Proc;
@@ -87,10 +87,10 @@ fn begin<'a>(alloc: Global, p: &'a Proc, t: &'a Trace) -> Result<Walk<'a>, Alloc
     ensures { IfOk result (λ w. seen w ≡ start p.now t.now.input t.now.choices) }
 {
     let state = first_state(alloc, t.input.as_slice(), p.names.len())?;
-    let mut spots = Vec::new(alloc);
-    spots.push(p.body.as_slice())?;
+    let mut tails = Vec::new(alloc);
+    tails.push(p.body.as_slice())?;
     Ok(Walk {
-        spots,
+        tails,
         state,
         cost: 0,
         choices: t.choices.as_slice(),
@@ -119,12 +119,12 @@ pub fn replay(alloc: Global, p: &Proc, t: &Trace, turns: u64) -> Result<i128, Tr
 {
     let mut walk = begin(alloc, p, t)?;
     let mut turn: u64 = 0;
-    'turns: while let Some(spot) = walk.next() {
+    'turns: while let Some(tail) = walk.next() {
         if turn == turns {
             return Err(TraceFault::Unfinished { turn: turn + 1 });
         }
         turn += 1;
-        if let Err(halt) = walk.turn(&spot) {
+        if let Err(halt) = walk.turn(&tail) {
             return Err(fault_in(halt, turn));
         }
     }

@@ -1,11 +1,11 @@
 //! The turns of a replay.
 //!
-//! What is to be done is kept as spots in the tree: at each one the statements of one list from
-//! there on. So a turn copies no list.
+//! What is to be done is kept as tails of the lists in the tree: each is what is left of one list. So
+//! a turn copies no list.
 ghost use Rattle.std.specs.Prelude.{◌≡◌, ◌++◌, ◌∷◌, [], if◌then◌else◌, MatchOption, OnOk, slice_set};
 ghost use Rattle.dc_syntax.specs.declared.tree.Stmt.{Stmt as Tree, out-Stmt};
 ghost use Rattle.dc_syntax.specs.declared.tree.Stmt.TheOpen as layer;
-ghost use Rattle.dc_trace.specs.Spots.{IsDecided, IsTaken, Makes, todo_at};
+ghost use Rattle.dc_trace.specs.Tails.{IsDecided, IsTaken, Makes, todo_at};
 
 use crate::evaluate::{evaluate, is_within, judge, sum};
 use dc_syntax::{Cond, Expr, Stmt};
@@ -32,39 +32,39 @@ impl From<AllocError> for Halt {
     }
 }
 
-/// The next statement, the list that begins with it, and what follows it there.
+/// What is left of a list: its first statement, the whole of it, and what follows the first.
 #[derive(Clone, Copy)]
-pub(crate) struct Spot<'a> {
+pub(crate) struct Tail<'a> {
     pub first: &'a Stmt,
     pub all: &'a [Stmt],
     pub rest: &'a [Stmt],
 }
 
-/// Where a replay stands. The last spot is done first.
+/// Where a replay stands. The last tail is done first.
 #[derive(Drop)]
 pub(crate) struct Walk<'a> {
-    pub spots: Vec<&'a [Stmt]>,
+    pub tails: Vec<&'a [Stmt]>,
     pub state: Vec<i128>,
     pub cost: i128,
     pub choices: &'a [i64],
 }
 
-// The spot at which a list begins, `None` where it is empty.
-fn spot_at<'a>(all: &'a [Stmt]) -> Option<Spot<'a>>
+// A list as a tail, `None` where it is empty.
+fn tail_at<'a>(all: &'a [Stmt]) -> Option<Tail<'a>>
     ensures { MatchOption result (all.now ≡ [])
         (λ q. (all.now ≡ q.first.now ∷ q.rest.now) × (q.all.now ≡ q.first.now ∷ q.rest.now)) }
 {
     let (first, rest) = all.split_first()?;
-    Some(Spot { first, all, rest })
+    Some(Tail { first, all, rest })
 }
 
-// Takes the next statement from spots.
-fn take<'a>(spots: &mut Vec<&'a [Stmt]>) -> Option<Spot<'a>>
-    ensures { IsTaken (todo_at spots.old.items) result (todo_at spots.new.items) }
+// Takes the next statement from tails.
+fn take<'a>(tails: &mut Vec<&'a [Stmt]>) -> Option<Tail<'a>>
+    ensures { IsTaken (todo_at tails.old.items) result (todo_at tails.new.items) }
 {
-    'spots: while let Some(all) = spots.pop() {
-        if let Some(spot) = spot_at(all) {
-            return Some(spot);
+    'tails: while let Some(all) = tails.pop() {
+        if let Some(tail) = tail_at(all) {
+            return Some(tail);
         }
     }
     None
@@ -79,30 +79,30 @@ impl<'a> Walk<'a> {
     }
 
     /// Takes the next statement, `None` where nothing is left to do.
-    pub fn next(&mut self) -> Option<Spot<'a>>
-        ensures spot { IsTaken (todo_at self.old.spots.items) result (todo_at self.new.spots.items) }
+    pub fn next(&mut self) -> Option<Tail<'a>>
+        ensures tail { IsTaken (todo_at self.old.tails.items) result (todo_at self.new.tails.items) }
         ensures state { self.new.state.items ≡ self.old.state.items }
         ensures cost { self.new.cost ≡ self.old.cost }
         ensures choices { self.new.choices.now ≡ self.old.choices.now }
     {
-        take(&mut self.spots)
+        take(&mut self.tails)
     }
 
     // Puts statements in front.
     fn put(&mut self, statements: &'a [Stmt]) -> Result<(), AllocError>
         ensures todo { OnOk result
-            (todo_at self.new.spots.items ≡ statements.now ++ todo_at self.old.spots.items) }
+            (todo_at self.new.tails.items ≡ statements.now ++ todo_at self.old.tails.items) }
         ensures state { self.new.state.items ≡ self.old.state.items }
         ensures cost { self.new.cost ≡ self.old.cost }
         ensures choices { self.new.choices.now ≡ self.old.choices.now }
     {
-        self.spots.push(statements)?;
+        self.tails.push(statements)?;
         Ok(())
     }
 
     // Sets a place of the state.
     fn set(&mut self, place: usize, z: &i128)
-        ensures todo { todo_at self.new.spots.items ≡ todo_at self.old.spots.items }
+        ensures todo { todo_at self.new.tails.items ≡ todo_at self.old.tails.items }
         ensures state { self.new.state.items ≡ slice_set self.old.state.items place z.now }
         ensures cost { self.new.cost ≡ self.old.cost }
         ensures choices { self.new.choices.now ≡ self.old.choices.now }
@@ -117,7 +117,7 @@ impl<'a> Walk<'a> {
         ensures choice { MatchOption result
             ((self.old.choices.now ≡ []) × (self.new.choices.now ≡ []))
             (λ z. self.old.choices.now ≡ z ∷ self.new.choices.now) }
-        ensures todo { todo_at self.new.spots.items ≡ todo_at self.old.spots.items }
+        ensures todo { todo_at self.new.tails.items ≡ todo_at self.old.tails.items }
         ensures state { self.new.state.items ≡ self.old.state.items }
         ensures cost { self.new.cost ≡ self.old.cost }
     {
@@ -214,7 +214,7 @@ impl<'a> Walk<'a> {
     // Takes the next choice of two: 1 is true, 0 is false.
     fn decide(&mut self) -> Result<bool, Halt>
         ensures choice { IsDecided self.old.choices.now result self.new.choices.now }
-        ensures todo { todo_at self.new.spots.items ≡ todo_at self.old.spots.items }
+        ensures todo { todo_at self.new.tails.items ≡ todo_at self.old.tails.items }
         ensures state { self.new.state.items ≡ self.old.state.items }
         ensures cost { self.new.cost ≡ self.old.cost }
     {
@@ -242,53 +242,53 @@ impl<'a> Walk<'a> {
     }
 
     // The body and the loop again, or what follows it.
-    fn go_on(&mut self, goes_on: bool, body: &'a [Stmt], spot: &Spot<'a>) -> Result<(), AllocError>
+    fn go_on(&mut self, goes_on: bool, body: &'a [Stmt], tail: &Tail<'a>) -> Result<(), AllocError>
         ensures todo { OnOk result
-            (todo_at self.new.spots.items
-            ≡ (if goes_on then body.now ++ spot.now.all.now else spot.now.rest.now)
-            ++ todo_at self.old.spots.items) }
+            (todo_at self.new.tails.items
+            ≡ (if goes_on then body.now ++ tail.now.all.now else tail.now.rest.now)
+            ++ todo_at self.old.tails.items) }
         ensures state { self.new.state.items ≡ self.old.state.items }
         ensures cost { self.new.cost ≡ self.old.cost }
         ensures choices { self.new.choices.now ≡ self.old.choices.now }
     {
         if goes_on {
-            self.put(spot.all)?;
+            self.put(tail.all)?;
             self.put(body)
         } else {
-            self.put(spot.rest)
+            self.put(tail.rest)
         }
     }
 
-    fn repeat(&mut self, c: &Cond, body: &'a [Stmt], spot: &Spot<'a>) -> Result<(), Halt>
-        requires { spot.now.all.now ≡ spot.now.first.now ∷ spot.now.rest.now }
-        ensures { Makes spot.now.first.now
-            (layer.While c.now body.now) spot.now.rest.now self.old result self.new }
+    fn repeat(&mut self, c: &Cond, body: &'a [Stmt], tail: &Tail<'a>) -> Result<(), Halt>
+        requires { tail.now.all.now ≡ tail.now.first.now ∷ tail.now.rest.now }
+        ensures { Makes tail.now.first.now
+            (layer.While c.now body.now) tail.now.rest.now self.old result self.new }
     {
         let Some(holds) = judge(c, self.state.as_slice()) else {
             return Err(Halt::Past128);
         };
-        self.go_on(holds, body, spot)?;
+        self.go_on(holds, body, tail)?;
         Ok(())
     }
 
-    fn repeat_any(&mut self, body: &'a [Stmt], spot: &Spot<'a>) -> Result<(), Halt>
-        requires { spot.now.all.now ≡ spot.now.first.now ∷ spot.now.rest.now }
-        ensures { Makes spot.now.first.now
-            (layer.WhileAny body.now) spot.now.rest.now self.old result self.new }
+    fn repeat_any(&mut self, body: &'a [Stmt], tail: &Tail<'a>) -> Result<(), Halt>
+        requires { tail.now.all.now ≡ tail.now.first.now ∷ tail.now.rest.now }
+        ensures { Makes tail.now.first.now
+            (layer.WhileAny body.now) tail.now.rest.now self.old result self.new }
     {
         let goes_on = self.decide()?;
-        self.go_on(goes_on, body, spot)?;
+        self.go_on(goes_on, body, tail)?;
         Ok(())
     }
 
     /// Makes the turn of a statement that was taken.
-    pub fn turn(&mut self, spot: &Spot<'a>) -> Result<(), Halt>
-        requires { spot.now.all.now ≡ spot.now.first.now ∷ spot.now.rest.now }
-        ensures { Makes spot.now.first.now
-            (out-Stmt spot.now.first.now) spot.now.rest.now self.old result self.new }
+    pub fn turn(&mut self, tail: &Tail<'a>) -> Result<(), Halt>
+        requires { tail.now.all.now ≡ tail.now.first.now ∷ tail.now.rest.now }
+        ensures { Makes tail.now.first.now
+            (out-Stmt tail.now.first.now) tail.now.rest.now self.old result self.new }
     {
-        let rest = spot.rest;
-        match spot.first {
+        let rest = tail.rest;
+        match tail.first {
             Stmt::Skip => {
                 self.put(rest)?;
                 Ok(())
@@ -300,8 +300,8 @@ impl<'a> Walk<'a> {
             Stmt::Assume(c) => self.assume(c, rest),
             Stmt::If(c, yes, no) => self.branch(c, yes.as_slice(), no.as_slice(), rest),
             Stmt::IfAny(left, right) => self.branch_any(left.as_slice(), right.as_slice(), rest),
-            Stmt::While(c, body) => self.repeat(c, body.as_slice(), spot),
-            Stmt::WhileAny(body) => self.repeat_any(body.as_slice(), spot),
+            Stmt::While(c, body) => self.repeat(c, body.as_slice(), tail),
+            Stmt::WhileAny(body) => self.repeat_any(body.as_slice(), tail),
         }
     }
 }

@@ -1,6 +1,6 @@
 use Rattle.std.proofs.Common.{◌≤◌, ◌-◌}
 use Rattle.dc_trace.specs.Replay.{start, is_small, Leads}
-use Rattle.dc_trace.specs.Spots.{seen}
+use Rattle.dc_trace.specs.Tails.{seen}
 use Rattle.dc_trace.proofs.run.replay.Given as goal
 
 abbrev pub invariant-turns : goal.invariant-turns

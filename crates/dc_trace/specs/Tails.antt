@@ -2,7 +2,7 @@
 use Rattle.std.specs.Prelude.{◌≡◌, ℕ, ℤ, pos, Bool, true, false, List, [], ◌∷◌, ◌++◌, Option, Some, None, Result, Ok, Err}
 use Rattle.std.specs.Borrow.{Bor}
 use Rattle.dc_syntax.specs.declared.tree.Stmt.{Stmt, Stmt-F}
-use Rattle.dc_trace.specs.declared.walk.Spot.{Spot}
+use Rattle.dc_trace.specs.declared.walk.Tail.{Tail}
 use Rattle.dc_trace.specs.declared.walk.Walk.{Walk}
 use Rattle.dc_trace.specs.declared.walk.Halt.{Halt}
 use Rattle.dc_trace.specs.declared.walk.Halt.TheVariants as H
@@ -10,19 +10,19 @@ use Rattle.dc_trace.specs.declared.run.TraceFault.{TraceFault}
 use Rattle.dc_trace.specs.declared.run.TraceFault.TheVariants as T
 use Rattle.dc_trace.specs.Replay.{Config, config, is_small, turn_of, Turn, on, stop, no_choice, bad_choice, past, blocked}
 
--- what is to be done at each spot, the last one first
+-- what is to be done: the tails, the last one first
 abbrev pub todo_at : List (Bor (List Stmt)) → List Stmt
 todo_at [] = []
 todo_at (a ∷ rest) = todo_at rest ++ a.now
 
--- the next statement is taken from what is to be done, and what follows it at its spot too
-abbrev pub IsTaken : List Stmt → Option Spot → List Stmt → Type 0
+-- the next statement is taken from what is to be done, and what follows it in its list too
+abbrev pub IsTaken : List Stmt → Option Tail → List Stmt → Type 0
 IsTaken A None R = A ≡ []
 IsTaken A (Some q) R = (A ≡ q.first.now ∷ (q.rest.now ++ R)) × (q.all.now ≡ q.first.now ∷ q.rest.now)
 
 -- where the replay stands
 abbrev pub seen : Walk → Config
-seen w = config (todo_at w.spots.items) w.state.items w.cost w.choices.now
+seen w = config (todo_at w.tails.items) w.state.items w.cost w.choices.now
 
 -- what a turn answers, and where it leaves the replay; want of memory is free
 abbrev pub IsTurn : {A : Type 0} → Turn → Result A Halt → Config → Type 0
@@ -33,10 +33,10 @@ IsTurn t (Err H.Past128) y = t ≡ stop past
 IsTurn t (Err H.Blocked) y = t ≡ stop blocked
 IsTurn t (Err H.NoMemory) y = Unit {0}
 
--- a turn of the statement S, with the outermost layer L, with R behind it at its spot
+-- a turn of the statement S, with the outermost layer L, with R behind it in its list
 abbrev pub Makes : {A : Type 0} → Stmt → Stmt-F Stmt → List Stmt → Walk → Result A Halt → Walk → Type 0
 Makes S L R w r v =
-    IsTurn (turn_of is_small S L (R ++ todo_at w.spots.items) w.state.items w.cost w.choices.now) r
+    IsTurn (turn_of is_small S L (R ++ todo_at w.tails.items) w.state.items w.cost w.choices.now) r
     (seen v)
 
 -- the next choice of two, 1 or 0; without one or with another number it says which
