@@ -9,9 +9,9 @@ use Rattle.dc_syntax.specs.declared.tree.Side.{Side}
 use Rattle.dc_syntax.specs.declared.tree.Side.TheVariants.{New, Old}
 use Rattle.dc_affine.specs.declared.atom.Atom.{Atom}
 use Rattle.dc_affine.specs.Atoms.{IsFullAtom, AllCases}
-use Rattle.dc_affine.proofs.Within.{flat_atoms}
+use Rattle.dc_affine.proofs.Within.{flat_atoms, full_within}
 use Rattle.dc_lp.specs.Tables.{Table}
-use Rattle.dc_program.specs.Programs.{IsProgram}
+use Rattle.dc_program.specs.Programs.{IsProgram, AllShort}
 use Rattle.dc_system.specs.declared.edges.System.{System}
 use Rattle.dc_system.specs.Systems.{system_of, size_fault}
 use Rattle.dc_system.specs.Folded.{IsFolded}
@@ -46,7 +46,6 @@ use Rattle.dc_endings.proofs.Vectors.{has_body}
 use Rattle.dc_endings.proofs.Shown.{done_ended}
 use Rattle.dc_endings.proofs.Sides.{case_lines, has_side}
 use Rattle.dc_endings.proofs.Mains.{main_light}
-use Rattle.dc_check.proofs.Fitting.{condition_cases}
 use Rattle.dc_greatest.proofs.Searching.{done_parts}
 
 -- ---- one version
@@ -91,6 +90,10 @@ module _ (i : Input) (p : Proc) (s : System) (program : IsProgram p) (size : siz
         (x.made, record { part = x.part; exit = x.exit_flag })
 
 -- ---- the cases
+
+are_cases : (n : ℕ) (cases : List (List Atom)) → AllShort 130 cases → AllCases (IsFullAtom n) cases → AllByRecursion (IsCase n) cases
+are_cases n [] h g = tt
+are_cases n (case ∷ cases) h g = (record { few = (let l = h.0 in omega arith); within = full_within n case g.0 }, are_cases n cases h.1 g.1)
 
 -- ---- the whole
 module _ (i : Input) (a : Analysis) (input : IsInput i) (h : IsThrough i a) where
@@ -141,7 +144,7 @@ module _ (i : Input) (a : Analysis) (input : IsInput i) (h : IsThrough i a) wher
     cases = record {
       some = input.condition.some;
       few = input.condition.few;
-      each = subst (λ n. AllByRecursion (IsCase n) i.cases) (sym new_params) (condition_cases i.new.params i.cases input.condition.short new_cases);
+      each = subst (λ n. AllByRecursion (IsCase n) i.cases) (sym new_params) (are_cases i.new.params i.cases input.condition.short new_cases);
     };
   }
 

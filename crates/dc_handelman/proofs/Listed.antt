@@ -7,7 +7,6 @@ use Rattle.dc_math.specs.Members.{Among, head, each-weaker, each-++, each-map_we
 use Rattle.dc_handelman.specs.Choices.{Choice, Rises, IsChoice, Before, fewer, level, AreChoices, AreFixed, widened, of_size, below, choices_of}
 use Rattle.dc_math.specs.OrderedLists.{Ordered, ordered-append, ordered-map, same_members, pairs_ordered, ordered_pairs}
 use Rattle.dc_handelman.proofs.Orders.{strict}
-use Rattle.dc_poly.proofs.Listed.{below-only, below-ordered}
 
 -- k numbers, from low on and below n
 pub record IsExact (n low k : ℕ) (c : Choice) : Type 0 where
@@ -81,6 +80,20 @@ every (suc more) low n k c e h = widened-every n low (of_size more (suc low)) (�
 record IsBelow (n k : ℕ) (c : Choice) : Type 0 where
   few : length c < k
   rises : Rises n 0 c
+
+below-only : (n k : ℕ) → AllByRecursion (IsBelow n k) (below n k)
+below-only n zero = tt
+below-only n (suc k) =
+    each-++ (IsBelow n (suc k)) (below n k) (of_size n 0 k)
+    (each-weaker (IsBelow n k) (IsBelow n (suc k)) (λ c h. record { few = (let l = h.few in omega arith); rises = h.rises }) (below n k) (below-only n k))
+    (each-weaker (IsExact n 0 k) (IsBelow n (suc k)) (λ c h. record { few = (let l = h.size in omega arith); rises = h.rises }) (of_size n 0 k) (exact n 0 n k (omega arith)))
+
+below-ordered : (n k : ℕ) → Ordered Before (below n k)
+below-ordered n zero = tt
+below-ordered n (suc k) =
+    ordered-append Before (below n k) (of_size n 0 k) (below-ordered n k) (ordered n 0 n k (omega arith))
+    (each-weaker (IsBelow n k) (λ x. AllByRecursion (Before x) (of_size n 0 k))
+    (λ c h. each-weaker (IsExact n 0 k) (Before c) (λ d g. fewer (let a = h.few in let b = g.size in omega arith)) (of_size n 0 k) (exact n 0 n k (omega arith))) (below n k) (below-only n k))
 
 below-every : (n k : ℕ) (c : Choice) → Rises n 0 c → length c < k → Among c (below n k)
 below-every n zero c l h = absurd (omega arith)
