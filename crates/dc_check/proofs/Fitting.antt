@@ -27,18 +27,18 @@ use Rattle.dc_check.proofs.Holding.{HoldsBoth, holds_both, shaped}
 
 pub condition_cases : (n : ℕ) (cases : List (List Atom)) → AllShort 130 cases → AllCases (IsFullAtom n) cases → AllByRecursion (IsCase n) cases
 condition_cases n [] h g = tt
-condition_cases n (case ∷ cases) h g = (record { few = (let l = h.0 in omega arith); full_within = full_within n case g.0 }, condition_cases n cases h.1 g.1)
+condition_cases n (case ∷ cases) h g = (record { few = (let l = h.0 in omega arith); within = full_within n case g.0 }, condition_cases n cases h.1 g.1)
 
 same_cases : (n : ℕ) (cases : List (List Atom)) → AllByRecursion (IsCase n) cases → AllByRecursion (plans.IsCase n) cases
 same_cases n [] h = tt
-same_cases n (case ∷ cases) h = (record { few = h.0.few; full_within = h.0.within }, same_cases n cases h.1)
+same_cases n (case ∷ cases) h = (record { few = h.0.few; within = h.0.within }, same_cases n cases h.1)
 
 -- ---- atoms
 plan_atoms : (s : System) (families : List (List Atom)) → list_all (is_full s) families ≡ true → AllByRecursion AreAtoms families → AllByRecursion (plans.AreAtoms s.vars) families
 plan_atoms s [] h g = tt
 plan_atoms s (atoms ∷ families) h g =
     let b = and_parts (is_full s atoms) (list_all (is_full s) families) h in
-    (record { few = g.0.few; full_within = full_atoms s.vars atoms b.0 g.0.each }, plan_atoms s families b.1 g.1)
+    (record { few = g.0.few; within = full_atoms s.vars atoms b.0 g.0.each }, plan_atoms s families b.1 g.1)
 
 is_plan : (s : System) (x : SideCert) → IsShaped s x → plans.IsPlan s x.families
 is_plan s x h = record { system = h.part.system; one_each = h.one_list_each; each = plan_atoms s x.families h.full h.part.families }
