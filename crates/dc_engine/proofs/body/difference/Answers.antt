@@ -1,8 +1,10 @@
+use Rattle.std.specs.Prelude.{pos}
 use Rattle.std.proofs.Common.{sym, ◌∙◌}
+use Rattle.dc_math.specs.Rational.{of_ℤ}
+use Rattle.dc_math.specs.Tests.{eq_ℚ_true}
 use Rattle.dc_frac.specs.Value.{value}
 use Rattle.dc_engine.proofs.Bodies.{difference_left, difference_right, left_zero}
 use Rattle.dc_engine.proofs.body.difference.Goals as goal
-use Rattle.dc_math.specs.Tests.{eq_ℚ_true}
 
 pub returns-then-is_zero : goal.returns-then-is_zero
 returns-then-is_zero c = difference_left (value c.args.plus.now) (value c.args.minus.now) (eq_ℚ_true (value c.args.minus.now) (of_ℤ (pos 0)) (sym c.is_zero.ensures ∙ c.if-is_zero.true))
